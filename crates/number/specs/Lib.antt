@@ -1,0 +1,5 @@
+pub mod Reply
+pub mod Float
+pub mod Time
+pub mod Root
+pub mod RootSteps

@@ -1,0 +1,47 @@
+// Tests and choices on binary64 numbers.
+ghost use mathlib.Core.Path.{_≡_};
+ghost use mathlib.Core.Bool.{cond};
+ghost use lib.Ieee.{lt};
+ghost use lib.Ieee.Scale.{finite};
+ghost use Rattle.number.specs.Float.{absoluteOf, clampOf};
+
+// Whether x is neither a NaN nor an infinity.
+pub fn is_finite(x: f64) -> bool
+    ensures { λ r. ⌜ r ≡ finite x ⌝ }
+{
+    let infinity = f64::from_bits(0x7ff0_0000_0000_0000);
+    if x < infinity { -infinity < x } else { false }
+}
+
+// x without its sign.
+pub fn absolute(x: f64) -> f64
+    ensures { λ r. ⌜ r ≡ absoluteOf x ⌝ }
+{
+    if x < 0.0 {
+        -x
+    } else if x == 0.0 {
+        0.0
+    } else {
+        x
+    }
+}
+
+// The larger of two numbers.
+pub fn larger(a: f64, b: f64) -> f64
+    ensures { λ r. ⌜ r ≡ cond (lt a b) b a ⌝ }
+{
+    if a < b { b } else { a }
+}
+
+// x, or the end of 0..1 that it lies beyond.
+pub fn clamp_to_unit(x: f64) -> f64
+    ensures { λ r. ⌜ r ≡ clampOf x ⌝ }
+{
+    if x < 0.0 {
+        0.0
+    } else if x > 1.0 {
+        1.0
+    } else {
+        x
+    }
+}

@@ -1,0 +1,25 @@
+use borrow.Author.Needs.{needs}
+use mathlib.Core.Path.{_≡_, sym, ap, _∙_, subst}
+use Prim.Native.Nat.{ℕ}
+use lib.Ieee.{Float}
+use Rattle.number.specs.Reply.{Reply, refused, given}
+use Rattle.number.specs.Root.{NearestRoot, rootReply, replyOfRoot}
+use Rattle.number.proofs.root.Cases.{positive-given}
+use Rattle.pikowhanu.specs.Boundary.{codeOf, leftIn, RootCall}
+use Rattle.pikowhanu.proofs.pk_root.Statement.{statement}
+use Rattle.pikowhanu.proofs.pk_root.Tie as tie
+
+returns : tie.Need-returns
+returns c =
+    let at = c .before .before .before in
+    let e : given (c .before .v .given .0 .0) ≡ rootReply (at .before .args .x) = ap replyOfRoot (sym (c .before .v .given .1)) ∙ at .root .ensures .is in
+    record { code = ap codeOf e; out = ap (λ (r : Reply Float). leftIn r (at .before .args .out .now)) e; nearest = λ p. at .root .ensures .nearest _ p (sym e) }
+
+returns-2 : tie.Need-returns-2
+returns-2 c =
+    let at = c .before .before in
+    let e : refused 9 ≡ rootReply (at .before .args .x) = ap replyOfRoot (sym (c .enum-told .given .1)) ∙ at .root .ensures .is in
+    record { code = ap codeOf e; out = ap (λ (r : Reply Float). leftIn r (at .before .args .out .now)) e; nearest = λ p. absurd (positive-given _ 9 p (sym e)) }
+
+pub pk-root-spec : {M : Type 1} → statement M
+pk-root-spec = tie.close (tie.spec (λ c κs. search needs) (λ c. search needs) (λ c. search needs) returns returns-2)
