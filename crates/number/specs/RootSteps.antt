@@ -57,3 +57,11 @@ weightOf (suc k) t = (2 ^ 52 + t) * 2 ^ (k + 1074)
 
 abbrev pub weight : ℕ → ℕ
 weight b = weightOf (b / 2 ^ 52) (b % 2 ^ 52)
+
+-- the value with the pattern b is m * 2 ^ e such units, m having 53 digits
+pub record UnitsOf (b m e : ℕ) : Type 0 where
+  pub is : m * 2 ^ e ≡ weight b
+  pub least : 2 ^ 52 ≤ m
+  pub most : m < 2 ^ 53
+  pub low : 52 ≤ e
+  pub high : e < 4000

@@ -17,12 +17,12 @@ pub fn is_finite(x: f64) -> bool
 pub fn absolute(x: f64) -> f64
     ensures { λ r. ⌜ r ≡ absoluteOf x ⌝ }
 {
-    if x < 0.0 {
-        -x
+    if 0.0 < x {
+        x
     } else if x == 0.0 {
         0.0
     } else {
-        x
+        -x
     }
 }
 

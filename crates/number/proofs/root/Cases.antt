@@ -5,13 +5,13 @@ use Prim.Native.Nat.{ℕ, zero, suc, _*_, _^_, _/_}
 use native.Mathlib.Omega.{arith}
 use lib.IntN.{ℤ}
 use lib.Dec.{T}
-use borrow.Author.Tests.{ltb-true, ltb-false}
+use borrow.Author.Tests.{ltb-true}
 use lib.Ieee.{Float, nan, inf, fin, binary64, up, down, lt, eq, ofBits}
 use lib.Ieee.Positive.{positive}
 use Rattle.number.specs.Reply.{refused}
 use Rattle.number.specs.declared.root.SquareRoot.the-variants.{Value, Refused}
 use Rattle.number.specs.Root.{rootReply, RootAnswer}
-use Rattle.number.proofs.Zeros.{impossible, some, none, zero-side, zero-equal, not-zero}
+use Rattle.number.proofs.Zeros.{impossible, none, zero-side, zero-equal, not-zero, positive-above}
 
 abbrev pub zeroF : Float
 zeroF = ofBits binary64 0
@@ -51,7 +51,7 @@ when-refused (inf true) a b = record { is = refl; nearest = λ v p e. absurd p }
 when-refused (inf false) a b = impossible (sym a)
 when-refused (fin s zero e) a b = impossible (sym b ∙ zero-equal s e)
 when-refused (fin true (suc m) e) a b = record { is = refl; nearest = λ v p e. absurd p }
-when-refused (fin false (suc m) e) a b = absurd (omega (arith, ltb-false (0 * 1 * down e) (suc m * up e * 1) a, some m e, zero-side e))
+when-refused (fin false (suc m) e) a b = positive-above m e a
 
 pub positive-given : (x : Float) (n : ℕ) → T (positive x) → rootReply x ≡ refused n → ⊥
 unfolding rootReply

@@ -78,28 +78,28 @@ bracketed n least end b h =
     let f : n + (least + 1) ≤ (least + 1) * (least + 1) = subst (λ (x : ℕ). n + x ≤ x * x) e (b .above) in
     record { above = omega (arith, square-suc least); below = b .below }
 
--- ---- a guess that is right, or one off: d is n - q² + 2 ^ 54 + 4 * q
-module _ (n q d : ℕ) (is : d + q * q ≡ n + 2 ^ 54 + 4 * q) (z : 0 < q) where
-  lower : 2 ^ 54 + q + 2 < d → d ≤ 2 ^ 54 + 3 * q → Nearest n (q - 1)
+-- ---- a guess that is right, or one off: d is n - q² + 2 ^ 54 + 3 * q
+module _ (n q d : ℕ) (is : d + q * q ≡ n + 2 ^ 54 + 3 * q) (z : 0 < q) where
+  lower : 2 ^ 54 + 2 < d → d ≤ 2 ^ 54 + 2 * q → Nearest n (q - 1)
   lower x y = record { above = omega (arith, square-pred q z); below = omega (arith, square-pred q z) }
 
-  same : 2 ^ 54 + 3 * q < d → d ≤ 2 ^ 54 + 5 * q → Nearest n q
+  same : 2 ^ 54 + 2 * q < d → d ≤ 2 ^ 54 + 4 * q → Nearest n q
   same x y = record { above = omega arith; below = omega arith }
 
-  upper : 2 ^ 54 + 5 * q < d → d ≤ 2 ^ 54 + 7 * q + 2 → Nearest n (q + 1)
+  upper : 2 ^ 54 + 4 * q < d → d ≤ 2 ^ 54 + 6 * q + 2 → Nearest n (q + 1)
   upper x y = record { above = omega (arith, square-suc q); below = omega (arith, square-suc q) }
 
   -- the guess moved by the two tests
-  pub moved : 2 ^ 54 + q + 2 < d → d ≤ 2 ^ 54 + 7 * q + 2 → Nearest n (q - 1 + cond (ltb (2 ^ 54 + 3 * q) d) 1 0 + cond (ltb (2 ^ 54 + 5 * q) d) 1 0)
-  moved x y = go (ltb (2 ^ 54 + 3 * q) d) (ltb (2 ^ 54 + 5 * q) d) refl refl
+  pub moved : 2 ^ 54 + 2 < d → d ≤ 2 ^ 54 + 6 * q + 2 → Nearest n (q - 1 + cond (ltb (2 ^ 54 + 2 * q) d) 1 0 + cond (ltb (2 ^ 54 + 4 * q) d) 1 0)
+  moved x y = go (ltb (2 ^ 54 + 2 * q) d) (ltb (2 ^ 54 + 4 * q) d) refl refl
     where
       at : (r : ℕ) (s : ℕ) → r ≡ s → Nearest n r → Nearest n s
       at r s e h = subst (λ (k : ℕ). Nearest n k) e h
 
-      go : (t u : Bool) → ltb (2 ^ 54 + 3 * q) d ≡ t → ltb (2 ^ 54 + 5 * q) d ≡ u → Nearest n (q - 1 + cond t 1 0 + cond u 1 0)
+      go : (t u : Bool) → ltb (2 ^ 54 + 2 * q) d ≡ t → ltb (2 ^ 54 + 4 * q) d ≡ u → Nearest n (q - 1 + cond t 1 0 + cond u 1 0)
       go true true e f = at (q + 1) (q - 1 + 1 + 1) (omega arith) (upper (ltb-true _ _ f) y)
       go true false e f = at q (q - 1 + 1 + 0) (omega arith) (same (ltb-true _ _ e) (ltb-false _ _ f))
-      go false true e f = absurd (omega (arith, ltb-false (2 ^ 54 + 3 * q) d e, ltb-true (2 ^ 54 + 5 * q) d f))
+      go false true e f = absurd (omega (arith, ltb-false (2 ^ 54 + 2 * q) d e, ltb-true (2 ^ 54 + 4 * q) d f))
       go false false e f = at (q - 1) (q - 1 + 0 + 0) (omega arith) (lower x (ltb-false _ _ e))
 
 -- ---- the range of a nearest number

@@ -1,24 +1,44 @@
-use mathlib.Core.Path.{_∙_, subst}
-use Prim.Native.Nat.{ℕ, _/_, _%_, _^_}
+use mathlib.Core.Path.{subst}
+use Prim.Native.Nat.{ℕ, _+_, _-_, _*_, _/_, _%_, _^_, _<_}
+use native.Mathlib.Omega.{arith}
 use borrow.Author.Needs.{needs}
 use Rattle.number.specs.RootSteps.{PatternOf}
-use Rattle.number.proofs.root.Powers.{undo, at-zero, at-field}
+use Rattle.number.proofs.root.Powers.{scaled-least, scaled-most, q-most, pattern}
 use Rattle.number.proofs.root.root_bits.Statement.{statement}
 use Rattle.number.proofs.root.root_bits.Tie as tie
 
+mul-correct : tie.Need-mul-correct
+mul-correct c = let x = c .unpack in omega (arith, scaled-most (x .result .digits) (x .result .exponent % 2) (omega arith) (x .ensures .most))
+
+correct-requires : tie.Need-correct-requires
+correct-requires c κs =
+    let x = c .before .unpack in
+    (scaled-least (x .result .digits) (x .result .exponent % 2) (omega arith) (x .ensures .least), scaled-most (x .result .digits) (x .result .exponent % 2) (omega arith) (x .ensures .most))
+
+add-result : tie.Need-add-result
+add-result c =
+    let x = c .before .before .unpack in
+    omega (arith, q-most (x .result .digits) (x .result .exponent) _ (x .ensures .least) (x .ensures .most) (x .ensures .low) (x .ensures .high) (c .correct .ensures))
+
 returns : tie.Need-returns
 returns c =
-    let n = c .before .before .normalize in
-    let b = c .before .before .before .before .args .b in
-    subst (λ (w : ℕ). PatternOf w (c .finish .result)) (undo (b % 2 ^ 52) (n .result .doubled) (n .result .digits) (n .ensures .is) (n .ensures .few) ∙ at-zero (b / 2 ^ 52) (b % 2 ^ 52) (c .before .before .before .if1 .taken))
-    (c .finish .ensures)
-
-returns-2 : tie.Need-returns-2
-returns-2 c =
-    let b = c .before .before .args .b in
-    subst (λ (w : ℕ). PatternOf w (c .finish2 .result)) (at-field (b / 2 ^ 52) (b % 2 ^ 52) (c .before .if1 .left)) (c .finish2 .ensures)
+    let x = c .before .before .unpack in
+    subst (λ (w : ℕ). PatternOf w ((x .result .exponent - 52) / 2 * 2 ^ 52 + c .correct .result)) (x .ensures .is)
+    (pattern (x .result .digits) (x .result .exponent) _ (x .ensures .least) (x .ensures .most) (x .ensures .low) (x .ensures .high) (c .correct .ensures))
 
 pub root-bits-spec : {M : Type 1} → statement M
 root-bits-spec =
     tie.close
-    (tie.spec (λ c κs. search needs) (λ c. search needs) (λ c κs. search needs) (λ c. search needs) (λ c. search needs) (λ c κs. search needs) returns returns-2)
+    (tie.spec
+    (λ c κs. search needs)
+    (λ c. search needs)
+    mul-correct
+    (λ c. search needs)
+    (λ c. search needs)
+    (λ c. search needs)
+    (λ c κs. search needs)
+    correct-requires
+    (λ c. search needs)
+    (λ c. search needs)
+    add-result
+    returns)

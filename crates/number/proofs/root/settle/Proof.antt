@@ -1,19 +1,23 @@
 use borrow.Author.Needs.{needs}
-use mathlib.Core.Path.{_≡_, sym, ap, _∙_, subst}
-use mathlib.Core.Bool.{Bool, true, false, cond}
-use Prim.Native.Nat.{ℕ, _+_, _-_, _*_, _^_, _≤_}
+use Prim.Native.Nat.{_+_, _-_, _*_, _^_}
 use native.Mathlib.Omega.{arith}
-use Rattle.number.specs.RootSteps.{Nearest}
 use Rattle.number.proofs.root.Squares.{moved}
 use Rattle.number.proofs.root.settle.Statement.{statement}
 use Rattle.number.proofs.root.settle.Tie as tie
 
 returns : tie.Need-returns
 returns c =
-    let at = c .before .before .before in
-    let s = at .before .before .before .before .before in
-    let d = (s .args .a + 4 - at .before .before .before .before .square .result .whole) * 2 ^ 52 + 4 * s .args .q - at .before .before .before .before .square .result .rest in
-    rw (c .before .past .ensures .is, c .past2 .ensures .is) (moved (s .args .a * 2 ^ 52) (s .args .q) d (omega (arith, at .before .before .before .before .square .ensures .is, at .before .before .before .before .square .ensures .small)) (omega arith) (at .if3 .taken) (omega (arith, c .before .before .if4 .taken)))
+    let second = c .before .before .before in
+    let first = second .before .before .before in
+    let sq = first .before .square in
+    let s = first .before .before in
+    let d = first .wrapping-sub-u64 .result * 2 ^ 52 + 3 * s .args .q - sq .result .rest in
+    rw (c .before .past .ensures .is, c .past2 .ensures .is)
+    (moved (s .args .a * 2 ^ 52) (s .args .q) d
+    (omega (arith, sq .ensures .is, sq .ensures .small, sq .ensures .fits, first .wrapping-sub-u64 .ensures, second .before .before .if1 .taken))
+    (omega arith)
+    (omega (arith, second .wrapping-sub-u642 .ensures, c .before .before .if2 .taken))
+    (omega (arith, second .wrapping-sub-u642 .ensures, c .before .before .if2 .taken)))
 
 pub settle-spec : {M : Type 1} → statement M
 settle-spec =
@@ -21,17 +25,12 @@ settle-spec =
     (tie.spec
     (λ c κs. search needs)
     (λ c. search needs)
+    (λ c κs. search needs)
     (λ c. search needs)
     (λ c. search needs)
     (λ c. search needs)
     (λ c. search needs)
-    (λ c. search needs)
-    (λ c. search needs)
-    (λ c. search needs)
-    (λ c. search needs)
-    (λ c. search needs)
-    (λ c. search needs)
-    (λ c. search needs)
+    (λ c κs. search needs)
     (λ c. search needs)
     (λ c. search needs)
     (λ c. search needs)

@@ -1,0 +1,4 @@
+pub mod Laying
+pub mod Firsts
+pub mod Sifting
+pub mod Loops

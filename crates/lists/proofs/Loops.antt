@@ -1,0 +1,149 @@
+-- What a loop over an array has done by index i, as a record that its invariant cites, with the law of each kind of turn. Assumes nothing.
+use mathlib.Core.Path.{_≡_, refl, ap, sym, _∙_}
+use mathlib.Core.List.{List, [], _∷_, _++_, map, append-assoc, append-nil}
+use mathlib.Core.Bool.{Bool, true, false}
+use mathlib.Core.Option.{Option, none, some}
+use Prim.Native.Nat.{ℕ, suc, zero, _+_, _-_, _≤_, _<_, zero-le}
+use native.Mathlib.Omega.{arith}
+use native.Mathlib.Numerals.{add-one}
+use lib.ListN.{length, take, drop, getD, set, length-append, length-map, replicate, length-replicate, replicate-append-replicate}
+use lib.Seq.{take-suc, length-take-le, getD-take, drop-length}
+use Rattle.lists.specs.Lay.{lay}
+use Rattle.lists.proofs.Laying.{set-lay, getD-lay, lay-front}
+use Rattle.lists.specs.Sift.{sift, kept}
+use Rattle.lists.proofs.Sifting.{sift-more, sift-take-length}
+use Rattle.lists.specs.First.{changeFirst}
+use Rattle.lists.proofs.Firsts.{change-at, change-none}
+use borrow.Author.Count.{below-more}
+
+-- l's first i elements were sifted by f into m's first j
+pub record Sifted {A : Type 0} (f : A → Option A) (l m : List A) (i j : ℕ) : Type 0 where
+  pub read : i ≤ length l
+  pub count : j ≡ length (sift f (take i l))
+  pub slots : m ≡ lay (sift f (take i l)) l
+
+module _ {A : Type 0} (f : A → Option A) where
+  pub sifted-start : (l : List A) → Sifted f l l 0 0
+  unfolding sift lay
+  sifted-start l = record { read = zero-le; count = refl; slots = refl }
+
+  pub sifted-behind : (l m : List A) (i j : ℕ) → Sifted f l m i j → j ≤ i
+  sifted-behind l m i j s = omega (arith, s .count, sift-take-length f l i (s .read))
+
+  -- the element at i is as it was
+  pub sifted-read : (l m : List A) (i j : ℕ) (d : A) → Sifted f l m i j → getD m i d ≡ getD l i d
+  sifted-read l m i j d s =
+      ap (λ (q : List A). getD q i d) (s .slots)
+      ∙ getD-lay (sift f (take i l)) l i d (sift-take-length f l i (s .read))
+
+  pub sifted-drop : (l m : List A) (i j : ℕ) (d : A) → Sifted f l m i j → i < length l → f (getD m i d) ≡ none → Sifted f l m (i + 1) j
+  sifted-drop l m i j d s h e =
+      let more : sift f (take (i + 1) l) ≡ sift f (take i l) =
+      sift-more f l i d h ∙ ap (λ (o : Option A). sift f (take i l) ++ kept o []) (ap f (sym (sifted-read l m i j d s)) ∙ e) ∙ append-nil (sift f (take i l)) in
+      record { read = omega arith; count = rw more (s .count); slots = rw more (s .slots) }
+
+  pub sifted-keep : (l m : List A) (i j : ℕ) (d y : A) → Sifted f l m i j → i < length l → f (getD m i d) ≡ some y → Sifted f l (set m j y) (i + 1) (j + 1)
+  sifted-keep l m i j d y s h e =
+      let more : sift f (take (i + 1) l) ≡ sift f (take i l) ++ (y ∷ []) =
+      sift-more f l i d h ∙ ap (λ (o : Option A). sift f (take i l) ++ kept o []) (ap f (sym (sifted-read l m i j d s)) ∙ e) in
+      record {
+        read = omega arith;
+        count = rw (more, length-append) (ap (λ (k : ℕ). k + 1) (s .count));
+        slots = rw (more, s .slots, s .count) (set-lay (sift f (take i l)) l y (omega (arith, sift-take-length f l i (s .read))));
+      }
+
+-- l's first i elements were changed by f in place
+pub record Mapped {A : Type 0} (f : A → A) (l m : List A) (i : ℕ) : Type 0 where
+  pub read : i ≤ length l
+  pub slots : m ≡ lay (map f (take i l)) l
+
+module _ {A : Type 0} (f : A → A) where
+  pub mapped-start : (l : List A) → Mapped f l l 0
+  unfolding lay
+  mapped-start l = record { read = zero-le; slots = refl }
+
+  mapped-length : (l : List A) (i : ℕ) → i ≤ length l → length (map f (take i l)) ≡ i
+  mapped-length l i h = length-map (take i l) f ∙ length-take-le i l h
+
+  map-append : (l m : List A) → map f (l ++ m) ≡ map f l ++ map f m
+  map-append [] m = refl
+  map-append (x ∷ l) m = ap (λ (q : List A). f x ∷ q) (map-append l m)
+
+  pub mapped-more : (l m : List A) (i : ℕ) (d : A) → Mapped f l m i → i < length l → Mapped f l (set m i (f (getD m i d))) (i + 1)
+  mapped-more l m i d s h =
+      let k : length (map f (take i l)) ≡ i = mapped-length l i (s .read) in
+      let e : getD m i d ≡ getD l i d =
+      ap (λ (q : List A). getD q i d) (s .slots) ∙ getD-lay (map f (take i l)) l i d (omega arith) in
+      let more : map f (take (i + 1) l) ≡ map f (take i l) ++ (f (getD l i d) ∷ []) =
+      ap (λ (n : ℕ). map f (take n l)) (add-one i) ∙ ap (map f) (take-suc l i d h) ∙ map-append (take i l) (getD l i d ∷ []) in
+      record {
+        read = omega arith;
+        slots =
+            ap (λ (x : A). set m i (f x)) e
+            ∙ ap (λ (q : List A). set q i (f (getD l i d))) (s .slots)
+            ∙ ap (λ (n : ℕ). set (lay (map f (take i l)) l) n (f (getD l i d))) (sym k)
+            ∙ set-lay (map f (take i l)) l (f (getD l i d)) (omega arith)
+            ∙ ap (λ (q : List A). lay q l) (sym more);
+      }
+
+-- none of l's first i elements has p
+pub record Missed {A : Type 0} (p : A → Bool) (d : A) (l : List A) (i : ℕ) : Type 0 where
+  pub misses : (k : ℕ) → k < i → p (getD l k d) ≡ false
+
+module _ {A : Type 0} (p : A → Bool) (d : A) where
+  pub missed-start : (l : List A) → Missed p d l 0
+  missed-start l = record { misses = λ k h. absurd (omega arith) }
+
+  pub missed-more : (l : List A) (i : ℕ) → Missed p d l i → p (getD l i d) ≡ false → Missed p d l (i + 1)
+  missed-more l i s e = record { misses = below-more _ _ (s .misses) e }
+
+  -- what a search of l's first n elements finds: the first, at i
+  pub missed-hit : (f : A → A) (l : List A) (n i : ℕ) → Missed p d l i → n ≤ length l → i < n → p (getD l i d) ≡ true
+      → changeFirst p f (take n l) ≡ some (set (take n l) i (f (getD l i d)))
+  missed-hit f l n i s h k e =
+      rw (getD-take n l i d k) at
+      (change-at p f (take n l) i d (omega (arith, length-take-le n l h)) (λ j q. rw (getD-take n l j d (omega arith)) (s .misses j q)) (rw (getD-take n l i d k) e))
+
+  pub missed-all : (f : A → A) (l : List A) (n : ℕ) → Missed p d l n → n ≤ length l → changeFirst p f (take n l) ≡ none
+  missed-all f l n s h =
+      change-none p f (take n l) d
+      (λ j q. let b : j < n = omega (arith, length-take-le n l h) in rw (getD-take n l j d b) (s .misses j b))
+
+-- l's elements from n on were set to b, up to i
+pub record Filled {A : Type 0} (b : A) (n : ℕ) (l m : List A) (i : ℕ) : Type 0 where
+  pub read : i ≤ length l
+  pub from : n ≤ i
+  pub slots : m ≡ lay (take n l ++ replicate (i - n) b) l
+
+module _ {A : Type 0} (b : A) (n : ℕ) where
+  pub filled-start : (l : List A) → n ≤ length l → Filled b n l l n
+  filled-start l h =
+      let z : n - n ≡ 0 = omega arith in
+      record { read = h; from = omega arith; slots = rw (z, append-nil (take n l)) (sym (lay-front n l h)) }
+
+  filled-length : (l : List A) (i : ℕ) → n ≤ i → i ≤ length l → length (take n l ++ replicate (i - n) b) ≡ i
+  filled-length l i h k = simp (length-append, length-replicate) (omega (arith, length-take-le n l (omega arith)))
+
+  pub filled-more : (l m : List A) (i : ℕ) → Filled b n l m i → i < length l → Filled b n l (set m i b) (i + 1)
+  filled-more l m i s h =
+      let k : length (take n l ++ replicate (i - n) b) ≡ i = filled-length l i (s .from) (s .read) in
+      let e : i + 1 - n ≡ (i - n) + 1 = omega (arith, s .from) in
+      let more : take n l ++ replicate (i + 1 - n) b ≡ (take n l ++ replicate (i - n) b) ++ (b ∷ []) =
+      rw (e, ← replicate-append-replicate (i - n) 1 b) (sym (append-assoc (take n l) (replicate (i - n) b) (b ∷ []))) in
+      record {
+        read = omega arith;
+        from = omega (arith, s .from);
+        slots =
+            ap (λ (q : List A). set q i b) (s .slots)
+            ∙ ap (λ (j : ℕ). set (lay (take n l ++ replicate (i - n) b) l) j b) (sym k)
+            ∙ set-lay (take n l ++ replicate (i - n) b) l b (omega arith)
+            ∙ ap (λ (q : List A). lay q l) (sym more);
+      }
+
+  pub filled-end : (l m : List A) → Filled b n l m (length l) → m ≡ take n l ++ replicate (length l - n) b
+  unfolding lay
+  filled-end l m s =
+      s .slots
+      ∙ ap (λ (j : ℕ). (take n l ++ replicate (length l - n) b) ++ drop j l) (filled-length l (length l) (s .from) (s .read))
+      ∙ ap (λ (q : List A). (take n l ++ replicate (length l - n) b) ++ q) (drop-length l)
+      ∙ append-nil (take n l ++ replicate (length l - n) b)

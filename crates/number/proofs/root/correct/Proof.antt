@@ -1,0 +1,10 @@
+use borrow.Author.Needs.{needs}
+use Rattle.number.proofs.root.Patterns.{lt-no-nan'}
+use Rattle.number.proofs.root.correct.Statement.{statement}
+use Rattle.number.proofs.root.correct.Tie as tie
+
+to-bits : tie.Need-float-to-bits-settle
+to-bits c = lt-no-nan' _ _ (c .if1 .taken)
+
+pub correct-spec : {M : Type 1} → statement M
+correct-spec = tie.close (tie.spec to-bits (λ c. search needs) (λ c κs. search needs) (λ c κs. search needs) (λ c. search needs) (λ c. search needs))
