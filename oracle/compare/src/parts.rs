@@ -16,7 +16,7 @@ pub struct Entry {
 
 pub const PARTS: &[Entry] = &[
     #[cfg(feature = "pikowhanu")]
-    entry::<root::Root>(),
+    entry::<root::RootPart>(),
 ];
 
 const fn entry<P: Part>() -> Entry {

@@ -1,5 +1,7 @@
 //! The product's own functions, as include/pikowhanu.h declares them.
 
+use cases::root::RootReply;
+
 extern "C" {
     /// 0 and the root in `out`, or the refusal's number and `out` as it was.
     fn pk_root(x: f64, out: *mut f64) -> u32;
@@ -8,20 +10,10 @@ extern "C" {
 /// What stands in the answer's place before a call: a NaN that no root has.
 const UNTOUCHED: u64 = 0x7FF9_5AFE_5AFE_5AFE;
 
-/// What a call of the root answers, and what it leaves in the memory that it was lent.
-#[derive(Clone, Copy, Debug, PartialEq, Eq)]
-pub struct RootReply {
-    pub number: u32,
-    /// The bits in the answer's place; nothing if it is untouched.
-    pub written: Option<u64>,
-    /// Whether the places beside it are untouched.
-    pub beside_untouched: bool,
-}
-
-/// The root with all that can be seen of the call.
+/// The root, with all that can be seen of the call.
 pub fn root_reply(x: f64) -> RootReply {
     let mut places = [f64::from_bits(UNTOUCHED); 3];
-    let number = unsafe { pk_root(x, &mut places[1]) };
+    let number = unsafe { pk_root(x, places.as_mut_ptr().add(1)) };
     let [before, answer, after] = places.map(f64::to_bits);
     RootReply {
         number,

@@ -4,7 +4,7 @@ mod part;
 mod progress;
 mod run;
 
-pub use part::Part;
+pub use part::{Case, Part};
 pub use run::{case, random};
 
 #[cfg(test)]

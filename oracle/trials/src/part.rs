@@ -2,7 +2,31 @@
 
 use inputs::Random;
 
-/// One part of ours and the oracle's answer to it.
+/// An input of one part, with the oracle's reply to it.
+pub trait Case: Clone {
+    /// All that can be seen of the part's answer.
+    type Reply: PartialEq;
+
+    /// Cases that every run begins with.
+    fn fixed() -> Vec<Self>;
+
+    fn random(random: &mut Random) -> Self;
+
+    /// The oracle's reply.
+    fn judged(&self) -> Self::Reply;
+
+    /// Cases that are smaller than this one, the boldest first. Each chain of them must end.
+    fn smaller(&self) -> Vec<Self>;
+
+    /// The words of a case, and the case that words stand for.
+    fn print(&self) -> String;
+    fn parse(words: &[String]) -> Option<Self>;
+
+    /// What tells two different replies apart, in a few lines.
+    fn told_apart(ours: &Self::Reply, theirs: &Self::Reply) -> String;
+}
+
+/// One part of ours.
 pub trait Part {
     const NAME: &'static str;
     /// What is compared with what, in a few words.
@@ -11,21 +35,8 @@ pub trait Part {
     const COUNT: u64;
     const BRIEF: u64;
 
-    type Case: Clone;
+    type Case: Case;
 
-    /// Cases that every run begins with.
-    fn fixed() -> Vec<Self::Case>;
-
-    /// A random case.
-    fn random(random: &mut Random) -> Self::Case;
-
-    /// Runs both on a case: nothing if they agree, else what each gave.
-    fn difference(case: &Self::Case) -> Option<String>;
-
-    /// Cases that are smaller than this one, the boldest first. Each chain of them must end.
-    fn smaller(case: &Self::Case) -> Vec<Self::Case>;
-
-    /// The words of a case, and the case that words stand for.
-    fn print(case: &Self::Case) -> String;
-    fn parse(words: &[String]) -> Option<Self::Case>;
+    /// Our reply.
+    fn ours(case: &Self::Case) -> <Self::Case as Case>::Reply;
 }

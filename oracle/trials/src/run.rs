@@ -2,12 +2,12 @@
 
 use inputs::Random;
 
-use crate::part::Part;
+use crate::part::{Case, Part};
 use crate::progress::Progress;
 
 /// The fixed cases, then `count` random ones. Says what was found; true if nothing differs.
 pub fn random<P: Part>(seed: u64, count: u64) -> bool {
-    let fixed = P::fixed();
+    let fixed = P::Case::fixed();
     match first_difference::<P>(&fixed, seed, count) {
         None => {
             println!(
@@ -18,8 +18,8 @@ pub fn random<P: Part>(seed: u64, count: u64) -> bool {
             );
             true
         }
-        Some((cases, case)) => {
-            println!("{}: case {cases} of seed {seed} differs", P::NAME);
+        Some((tried, case)) => {
+            println!("{}: case {tried} of seed {seed} differs", P::NAME);
             report::<P>(&smallest::<P>(case));
             false
         }
@@ -28,18 +28,17 @@ pub fn random<P: Part>(seed: u64, count: u64) -> bool {
 
 /// One case, given by its words.
 pub fn case<P: Part>(words: &[String]) -> Result<bool, String> {
-    let case = P::parse(words).ok_or_else(|| format!("{}: no such case", P::NAME))?;
-    if P::difference(&case).is_some() {
+    let case = P::Case::parse(words).ok_or_else(|| format!("{}: no such case", P::NAME))?;
+    if differs::<P>(&case) {
         report::<P>(&case);
         return Ok(false);
     }
-    println!(
-        "{}: {}: {}: no difference",
-        P::NAME,
-        P::WHAT,
-        P::print(&case)
-    );
+    println!("{}: {}: {}: no difference", P::NAME, P::WHAT, case.print());
     Ok(true)
+}
+
+fn differs<P: Part>(case: &P::Case) -> bool {
+    P::ours(case) != case.judged()
 }
 
 /// The first case that differs, and how many were tried with it.
@@ -50,12 +49,9 @@ pub(crate) fn first_difference<P: Part>(
 ) -> Option<(u64, P::Case)> {
     let mut random = Random::new(seed);
     let mut progress = Progress::new(P::NAME, fixed.len() as u64 + count);
-    let cases = fixed
-        .iter()
-        .cloned()
-        .chain((0..count).map(|_| P::random(&mut random)));
-    for (tried, case) in (1..).zip(cases) {
-        if P::difference(&case).is_some() {
+    let more = (0..count).map(|_| P::Case::random(&mut random));
+    for (tried, case) in (1..).zip(fixed.iter().cloned().chain(more)) {
+        if differs::<P>(&case) {
             progress.end();
             return Some((tried, case));
         }
@@ -67,20 +63,17 @@ pub(crate) fn first_difference<P: Part>(
 
 /// Goes to a smaller case that differs for as long as there is one.
 pub(crate) fn smallest<P: Part>(mut case: P::Case) -> P::Case {
-    while let Some(next) = P::smaller(&case)
-        .into_iter()
-        .find(|smaller| P::difference(smaller).is_some())
-    {
+    while let Some(next) = case.smaller().into_iter().find(differs::<P>) {
         case = next;
     }
     case
 }
 
 fn report<P: Part>(case: &P::Case) {
-    let found = P::difference(case).expect("the case differs");
+    let told = P::Case::told_apart(&P::ours(case), &case.judged());
     println!(
-        "{found}\nalone: ./compare {} --case {}",
+        "{told}\nalone: ./compare {} --case {}",
         P::NAME,
-        P::print(case)
+        case.print()
     );
 }

@@ -2,10 +2,52 @@
 
 use inputs::Random;
 
-use crate::part::Part;
+use crate::part::{Case, Part};
 use crate::run;
 
-/// A sum that is wrong where the first number is at least 10 and the second is odd.
+#[derive(Clone, Debug, PartialEq)]
+struct Pair(u64, u64);
+
+impl Case for Pair {
+    type Reply = u64;
+
+    fn fixed() -> Vec<Self> {
+        vec![Pair(0, 0), Pair(9, 9)]
+    }
+
+    fn random(random: &mut Random) -> Self {
+        Pair(random.below(100), random.below(100))
+    }
+
+    fn judged(&self) -> u64 {
+        self.0 + self.1
+    }
+
+    fn smaller(&self) -> Vec<Self> {
+        let first = [self.0 / 2, self.0.saturating_sub(1)].map(|a| Pair(a, self.1));
+        let second = [self.1 / 2, self.1.saturating_sub(2)].map(|b| Pair(self.0, b));
+        let mut found = [first, second].concat();
+        found.retain(|smaller| smaller != self);
+        found
+    }
+
+    fn print(&self) -> String {
+        format!("{} {}", self.0, self.1)
+    }
+
+    fn parse(words: &[String]) -> Option<Self> {
+        match words {
+            [a, b] => Some(Pair(a.parse().ok()?, b.parse().ok()?)),
+            _ => None,
+        }
+    }
+
+    fn told_apart(ours: &u64, theirs: &u64) -> String {
+        format!("ours {ours}, theirs {theirs}")
+    }
+}
+
+/// A sum that is one too large where the first number is at least 10 and the second is odd.
 struct Sum;
 
 impl Part for Sum {
@@ -14,37 +56,11 @@ impl Part for Sum {
     const COUNT: u64 = 1000;
     const BRIEF: u64 = 100;
 
-    type Case = (u64, u64);
+    type Case = Pair;
 
-    fn fixed() -> Vec<(u64, u64)> {
-        vec![(0, 0), (9, 9)]
-    }
-
-    fn random(random: &mut Random) -> (u64, u64) {
-        (random.below(100), random.below(100))
-    }
-
-    fn difference(&(a, b): &(u64, u64)) -> Option<String> {
-        (a >= 10 && b % 2 == 1).then(|| format!("{} {}", a + b + 1, a + b))
-    }
-
-    fn smaller(&(a, b): &(u64, u64)) -> Vec<(u64, u64)> {
-        let first = [a / 2, a.saturating_sub(1)].map(|a| (a, b));
-        let second = [b / 2, b.saturating_sub(2)].map(|b| (a, b));
-        let mut found = [first, second].concat();
-        found.retain(|smaller| *smaller != (a, b));
-        found
-    }
-
-    fn print(&(a, b): &(u64, u64)) -> String {
-        format!("{a} {b}")
-    }
-
-    fn parse(words: &[String]) -> Option<(u64, u64)> {
-        match words {
-            [a, b] => Some((a.parse().ok()?, b.parse().ok()?)),
-            _ => None,
-        }
+    fn ours(case: &Pair) -> u64 {
+        let fault = case.0 >= 10 && case.1 % 2 == 1;
+        case.0 + case.1 + u64::from(fault)
     }
 }
 
@@ -54,9 +70,10 @@ fn words(text: &str) -> Vec<String> {
 
 #[test]
 fn the_fault_is_found_and_made_small() {
-    let (tried, case) = run::first_difference::<Sum>(&Sum::fixed(), 1, 1000).expect("a fault");
+    let found = run::first_difference::<Sum>(&Pair::fixed(), 1, 1000);
+    let (tried, case) = found.expect("a fault");
     assert!(tried > 2, "the fixed cases have no fault");
-    assert_eq!(run::smallest::<Sum>(case), (10, 1));
+    assert_eq!(run::smallest::<Sum>(case), Pair(10, 1));
     assert!(!run::random::<Sum>(1, 1000));
 }
 

@@ -172,5 +172,8 @@ fn parts_and_text() {
     );
     let rows: SMatrix<f64, 2, 1> = v.fixed_rows::<2>(1).into_owned();
     assert_eq!(bits(&rows), bits(&Vector2::new(-0.0, 2.0)));
-    assert_eq!(matrix([[1.0, 2.0]]).transpose(), matrix([[1.0], [2.0]]));
+    let turned = matrix([[-0.0, 2.0]]).transpose();
+    assert_eq!(bits(&turned), bits(&matrix([[-0.0], [2.0]])));
+    let identity = SMatrix::<f64, 2, 2>::identity();
+    assert_eq!(bits(&identity), bits(&matrix([[1.0, 0.0], [0.0, 1.0]])));
 }
