@@ -43,7 +43,7 @@ impl Case for Root {
         }
     }
 
-    fn smaller(&self) -> Vec<Self> {
+    fn smaller(&self) -> impl Iterator<Item = Self> {
         let (exponent, mantissa) = (self.0 >> 52 & 0x7FF, self.0 & MANTISSA);
         let towards_one = 1023 + (exponent as i64 - 1023) / 2;
         let with_exponent = |e: u64| self.0 & !(0x7FF << 52) | e << 52;
@@ -57,7 +57,7 @@ impl Case for Root {
         let set = (0..52).filter(|bit| mantissa >> bit & 1 == 1);
         found.extend(set.map(|bit| self.0 ^ 1 << bit));
         found.retain(|pattern| *pattern != self.0);
-        found.into_iter().map(Root).collect()
+        found.into_iter().map(Root)
     }
 
     fn print(&self) -> String {

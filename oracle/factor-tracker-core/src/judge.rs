@@ -4,6 +4,7 @@
 pub mod assignment;
 pub mod filter;
 pub mod lifecycle;
+pub mod report;
 pub mod sensors;
 pub mod settings;
 pub mod state;

@@ -105,10 +105,18 @@ impl<const N: usize> IndexMut<usize> for SMatrix<f64, N, 1> {
 /// Shown as the bits of each number, row by row, so that two texts are equal exactly where the bits are.
 impl<const R: usize, const C: usize> fmt::Debug for SMatrix<f64, R, C> {
     fn fmt(&self, f: &mut fmt::Formatter<'_>) -> fmt::Result {
-        let bits = |x: &f64| format!("{:016X}", x.to_bits());
-        let row = |row: &[f64; C]| row.iter().map(bits).collect::<Vec<_>>().join(", ");
-        let rows: Vec<String> = self.rows.iter().map(row).collect();
-        write!(f, "[{}]", rows.join("; "))
+        f.write_str("[")?;
+        for (i, row) in self.rows.iter().enumerate() {
+            for (j, x) in row.iter().enumerate() {
+                let before = match (i, j) {
+                    (0, 0) => "",
+                    (_, 0) => "; ",
+                    _ => ", ",
+                };
+                write!(f, "{before}{:016X}", x.to_bits())?;
+            }
+        }
+        f.write_str("]")
     }
 }
 

@@ -16,7 +16,7 @@ pub trait Case: Clone {
     fn judged(&self) -> Self::Reply;
 
     /// Cases that are smaller than this one, the boldest first. Each chain of them must end.
-    fn smaller(&self) -> Vec<Self>;
+    fn smaller(&self) -> impl Iterator<Item = Self>;
 
     /// The words of a case, and the case that words stand for.
     fn print(&self) -> String;

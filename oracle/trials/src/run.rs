@@ -63,10 +63,13 @@ pub(crate) fn first_difference<P: Part>(
 
 /// Goes to a smaller case that differs for as long as there is one.
 pub(crate) fn smallest<P: Part>(mut case: P::Case) -> P::Case {
-    while let Some(next) = case.smaller().into_iter().find(differs::<P>) {
-        case = next;
+    loop {
+        let next = case.smaller().find(differs::<P>);
+        match next {
+            Some(smaller) => case = smaller,
+            None => return case,
+        }
     }
-    case
 }
 
 fn report<P: Part>(case: &P::Case) {

@@ -23,12 +23,11 @@ impl Case for Pair {
         self.0 + self.1
     }
 
-    fn smaller(&self) -> Vec<Self> {
+    fn smaller(&self) -> impl Iterator<Item = Self> {
         let first = [self.0 / 2, self.0.saturating_sub(1)].map(|a| Pair(a, self.1));
         let second = [self.1 / 2, self.1.saturating_sub(2)].map(|b| Pair(self.0, b));
-        let mut found = [first, second].concat();
-        found.retain(|smaller| smaller != self);
-        found
+        let found = [first, second].concat().into_iter();
+        found.filter(move |smaller| smaller != self)
     }
 
     fn print(&self) -> String {

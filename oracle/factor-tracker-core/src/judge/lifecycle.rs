@@ -41,7 +41,7 @@ impl Lifecycle {
     }
 
     pub fn record(&self) -> LifecycleRecord {
-        LifecycleRecord::of(&Shown::of(&self.rust))
+        LifecycleRecord::of(&Shown::read(&format!("{:?}", self.rust)))
     }
 }
 

@@ -39,7 +39,8 @@ pub struct CandidateState {
 
 impl TrackerState {
     pub(super) fn of(tracker: &Cartesian3DTracker) -> Self {
-        let shown = Shown::of(tracker);
+        let text = format!("{tracker:?}");
+        let shown = Shown::read(&text);
         let sequence = |(sensor, last): &(Shown, Shown)| (sensor.inner().parse(), last.parse());
         let last_time = shown.field("last_time").option();
         TrackerState {

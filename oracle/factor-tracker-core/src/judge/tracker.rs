@@ -2,10 +2,14 @@
 
 use std::collections::BTreeSet;
 
+use super::report::Report;
 use super::state::TrackerState;
 use super::{panics, refusal, settings, PLACES};
 use crate::error::{InputError, NumericError, TrackerError};
-use crate::tracker::{BatchReport3D, Cartesian3DTracker, Cartesian3DTrackerConfig};
+use crate::tracker::{
+    BatchReport3D, Cartesian3DTracker, Cartesian3DTrackerConfig, ObservationAssociation,
+    ObservationOutcome,
+};
 use crate::types::{ClassLabel, ObservationBatch3D, SensorId, Timestamp, TrackId};
 
 /// Most sensors with a sequence.
@@ -75,7 +79,7 @@ impl Tracker {
     }
 
     /// The report, or the refusal's number.
-    pub fn process_batch(&mut self, batch: &ObservationBatch3D) -> Result<BatchReport3D, u32> {
+    pub fn process_batch(&mut self, batch: &ObservationBatch3D) -> Result<Report, u32> {
         let count = batch.observations.len();
         if count > PLACES {
             return Err(11);
@@ -88,13 +92,13 @@ impl Tracker {
             return Err(11);
         }
         let (after, report) = match outcome {
-            Ok(report) if self.has_room_for(count) => (after, report),
+            Ok(report) if self.has_kept_limits(&after, &report) => (after, report),
             Err(stopped) if stopped.stage != Stage::Births => return Err(stopped.number),
             _ => self.within_limits(batch)?,
         };
         self.rust = after;
         self.sensors.insert(batch.sensor_id);
-        Ok(with_plain_zeros(report))
+        Ok(Report::of(&report))
     }
 
     /// What the Rust makes of a batch whose detections from `born` on may not begin a track or leave a candidate.
@@ -127,14 +131,20 @@ impl Tracker {
         (tracker, outcome)
     }
 
-    /// Whether no limit can be reached, even if each of so many detections began a track or left a candidate.
-    fn has_room_for(&self, count: usize) -> bool {
-        let candidates = if self.candidates_are_kept {
-            candidates(&self.rust)
-        } else {
-            0
-        };
-        self.rust.active_track_count() + count <= PLACES && candidates + count <= PLACES
+    /// Whether no limit was reached on the way to this outcome. Births only add tracks; and each detection that
+    /// was left alone may have added a candidate.
+    fn has_kept_limits(&self, after: &Cartesian3DTracker, report: &BatchReport3D) -> bool {
+        let alone = |a: &&ObservationAssociation| a.outcome == ObservationOutcome::Unmatched;
+        let added = report.associations.iter().filter(alone).count();
+        after.active_track_count() <= PLACES && self.candidates(&self.rust) + added <= PLACES
+    }
+
+    /// The candidates of a tracker with these settings.
+    fn candidates(&self, tracker: &Cartesian3DTracker) -> usize {
+        match self.candidates_are_kept {
+            true => TrackerState::of(tracker).birth_candidates.len(),
+            false => 0,
+        }
     }
 
     /// Lets one detection more take part in the births at a time, and stops at the first that a limit or the
@@ -149,17 +159,13 @@ impl Tracker {
             let (after, outcome) = self.run(batch, born);
             let full = before.active_track_count() == PLACES;
             report = outcome.map_err(|stopped| if full { 11 } else { stopped.number })?;
-            if after.active_track_count() > PLACES || candidates(&after) > PLACES {
+            if after.active_track_count() > PLACES || self.candidates(&after) > PLACES {
                 return Err(11);
             }
             before = after;
         }
         Ok((before, report))
     }
-}
-
-fn candidates(tracker: &Cartesian3DTracker) -> usize {
-    TrackerState::of(tracker).birth_candidates.len()
 }
 
 /// The Rust names the place of an error by its context.
@@ -186,14 +192,4 @@ fn stage_of(error: &TrackerError) -> Stage {
         "initial state" | "initial state covariance" => Stage::Births,
         _ => Stage::Steps,
     }
-}
-
-/// The Rust leaves the sign of a zero distance open; the specification makes it +0, and so the cost.
-fn with_plain_zeros(mut report: BatchReport3D) -> BatchReport3D {
-    for association in &mut report.associations {
-        association.cost = association
-            .cost
-            .map(|cost| if cost == 0.0 { 0.0 } else { cost });
-    }
-    report
 }
