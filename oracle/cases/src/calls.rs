@@ -1,0 +1,235 @@
+//! A tracker and a sequence of calls on it; the reply has each call's answer and the whole state after it.
+
+mod floor;
+
+use factor_tracker_core::judge::report::Report;
+use factor_tracker_core::judge::state::TrackerState;
+use factor_tracker_core::judge::tracker::Tracker;
+use factor_tracker_core::tracker::Cartesian3DTrackerConfig;
+use factor_tracker_core::types::{
+    ClassLabel, ObservationBatch3D, Position3DObservation, SensorId, Timestamp,
+};
+use inputs::Random;
+use trials::Case;
+
+use crate::settings::{frame_of, frame_word, settings_of, settings_words};
+use crate::words::{self, float, floats, optional, Words};
+
+#[derive(Clone, Debug)]
+pub struct CallsCase {
+    pub settings: Cartesian3DTrackerConfig,
+    pub calls: Vec<Call>,
+}
+
+#[derive(Clone, Debug)]
+pub enum Call {
+    PredictTo(i64),
+    SetClassPrior {
+        track: u64,
+        label: u32,
+        confidence: f64,
+    },
+    ProcessBatch(ObservationBatch3D),
+}
+
+/// The first reply is that of `new`, and the only one where the settings are bad.
+#[derive(Clone, Debug, PartialEq, Eq)]
+pub struct CallReply {
+    pub answer: Answer,
+    pub state: Option<TrackerState>,
+}
+
+#[derive(Clone, Debug, PartialEq, Eq)]
+pub enum Answer {
+    BadField(u32),
+    Refused(u32),
+    Done,
+    Reported(Report),
+}
+
+impl CallReply {
+    /// The answer to a call, and the state that it leaves.
+    pub fn new(answer: Result<Answer, u32>, state: TrackerState) -> Self {
+        CallReply {
+            answer: answer.unwrap_or_else(Answer::Refused),
+            state: Some(state),
+        }
+    }
+}
+
+fn called(tracker: &mut Tracker, call: &Call) -> CallReply {
+    let answer = match call {
+        Call::PredictTo(time) => tracker.predict_to(*time).map(|()| Answer::Done),
+        Call::SetClassPrior {
+            track,
+            label,
+            confidence,
+        } => tracker
+            .set_class_prior(*track, *label, *confidence)
+            .map(|()| Answer::Done),
+        Call::ProcessBatch(batch) => tracker.process_batch(batch).map(Answer::Reported),
+    };
+    CallReply::new(answer, tracker.state())
+}
+
+impl Case for CallsCase {
+    type Reply = Vec<CallReply>;
+
+    fn fixed() -> Vec<Self> {
+        Vec::new()
+    }
+
+    fn random(random: &mut Random) -> Self {
+        floor::calls(random)
+    }
+
+    fn judged(&self) -> Vec<CallReply> {
+        let mut tracker = match Tracker::new(&self.settings) {
+            Ok(tracker) => tracker,
+            Err(field) => {
+                let answer = Answer::BadField(field);
+                return vec![CallReply {
+                    answer,
+                    state: None,
+                }];
+            }
+        };
+        let first = CallReply::new(Ok(Answer::Done), tracker.state());
+        let calls = self.calls.iter().map(|call| called(&mut tracker, call));
+        std::iter::once(first).chain(calls).collect()
+    }
+
+    fn smaller(&self) -> impl Iterator<Item = Self> {
+        let with = |calls| CallsCase {
+            calls,
+            ..self.clone()
+        };
+        let shorter = words::shorter(&self.calls).map(with);
+        let fewer = (0..self.calls.len()).flat_map(move |place| {
+            fewer_detections(&self.calls[place]).map(move |call| {
+                let mut calls = self.calls.clone();
+                calls[place] = call;
+                with(calls)
+            })
+        });
+        shorter
+            .chain(fewer)
+            .chain(words::with_smaller_numbers(self))
+    }
+
+    fn print(&self) -> String {
+        let calls: String = self.calls.iter().map(call_words).collect();
+        format!("{}{calls}", settings_words(&self.settings))
+    }
+
+    fn parse(words: &[String]) -> Option<Self> {
+        let mut words = Words::new(words);
+        Some(CallsCase {
+            settings: settings_of(&mut words)?,
+            calls: words.all(call_of)?,
+        })
+    }
+
+    fn told_apart(ours: &Vec<CallReply>, theirs: &Vec<CallReply>) -> String {
+        words::first_difference(ours, theirs)
+    }
+}
+
+fn fewer_detections(call: &Call) -> impl Iterator<Item = Call> + '_ {
+    let batch = match call {
+        Call::ProcessBatch(batch) => Some(batch),
+        _ => None,
+    };
+    batch.into_iter().flat_map(|batch| {
+        words::shorter(&batch.observations).map(|observations| {
+            Call::ProcessBatch(ObservationBatch3D {
+                observations,
+                ..batch.clone()
+            })
+        })
+    })
+}
+
+fn call_words(call: &Call) -> String {
+    match call {
+        Call::PredictTo(time) => format!(" predict {time}"),
+        Call::SetClassPrior {
+            track,
+            label,
+            confidence,
+        } => {
+            format!(" prior {track} {label} {}", float(*confidence))
+        }
+        Call::ProcessBatch(batch) => {
+            let detections: String = batch.observations.iter().map(detection_words).collect();
+            format!(
+                " batch {} {} {} {}{detections} end",
+                batch.sensor_id.value(),
+                batch.sequence,
+                batch.timestamp.as_nanos(),
+                frame_word(&batch.frame_id)
+            )
+        }
+    }
+}
+
+fn detection_words(detection: &Position3DObservation) -> String {
+    let place: Vec<f64> = detection.position.iter().copied().collect();
+    let covariance: Vec<f64> = detection.covariance.iter().copied().collect();
+    format!(
+        " at {} {} {} {} {}",
+        floats(&place),
+        floats(&covariance),
+        optional(detection.class_label, |label| label.value().to_string()),
+        optional(detection.score, float),
+        optional(detection.velocity, |v| floats(&[v.x, v.y]))
+    )
+}
+
+fn call_of(words: &mut Words) -> Option<Call> {
+    Some(match words.word()? {
+        "predict" => Call::PredictTo(words.whole()?),
+        "prior" => Call::SetClassPrior {
+            track: words.whole()?,
+            label: words.whole()?,
+            confidence: words.float()?,
+        },
+        "batch" => Call::ProcessBatch(ObservationBatch3D {
+            sensor_id: SensorId::new(words.whole()?),
+            sequence: words.whole()?,
+            timestamp: Timestamp::from_nanos(words.whole()?),
+            frame_id: frame_of(words.word()?)?,
+            observations: detections_of(words)?,
+        }),
+        _ => return None,
+    })
+}
+
+fn detections_of(words: &mut Words) -> Option<Vec<Position3DObservation>> {
+    let mut found = Vec::new();
+    loop {
+        match words.word()? {
+            "end" => return Some(found),
+            "at" => found.push(detection_of(words)?),
+            _ => return None,
+        }
+    }
+}
+
+fn detection_of(words: &mut Words) -> Option<Position3DObservation> {
+    let place = words.floats()?;
+    let covariance: [f64; 9] = words.floats()?;
+    let rows = [0, 3, 6].map(|first| {
+        [
+            covariance[first],
+            covariance[first + 1],
+            covariance[first + 2],
+        ]
+    });
+    Some(Position3DObservation {
+        class_label: words.optional(Words::whole)?.map(ClassLabel::new),
+        score: words.optional(Words::float)?,
+        velocity: words.optional(Words::floats)?.map(floor::vector2),
+        ..floor::detection(place, rows)
+    })
+}

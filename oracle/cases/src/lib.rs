@@ -1,0 +1,17 @@
+//! The inputs of each part, with the oracle's reply to them.
+
+pub mod assignment;
+pub mod calls;
+pub mod filter;
+pub mod least;
+pub mod lifecycle;
+pub mod line;
+pub mod root;
+pub mod settings;
+
+mod covariances;
+mod floats;
+mod words;
+
+#[cfg(test)]
+mod tests;

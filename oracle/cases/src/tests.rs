@@ -1,0 +1,179 @@
+//! What holds of every kind of case, and how far the random ones reach.
+
+use std::collections::BTreeSet;
+
+use inputs::Random;
+use trials::Case;
+
+use crate::assignment::AssignmentCase;
+use crate::calls::{Answer, CallsCase};
+use crate::filter::FilterCase;
+use crate::least::LeastCase;
+use crate::lifecycle::LifecycleCase;
+use crate::line::LineCase;
+use crate::root::Root;
+use crate::settings::SettingsCase;
+
+fn some<C: Case>(count: usize) -> Vec<C> {
+    let mut random = Random::new(1);
+    let fixed = C::fixed().into_iter().take(count);
+    fixed
+        .chain((0..count).map(|_| C::random(&mut random)))
+        .collect()
+}
+
+fn words(text: &str) -> Vec<String> {
+    text.split_whitespace().map(str::to_string).collect()
+}
+
+/// A case read back from its words is the same case, and every chain of smaller ones ends.
+fn sound<C: Case>() {
+    for case in some::<C>(60) {
+        let read = C::parse(&words(&case.print())).expect("a printed case is read");
+        assert_eq!(read.print(), case.print());
+        assert!(read.judged() == case.judged());
+        ends(case);
+    }
+}
+
+/// Follows the boldest of the smaller cases to the end.
+fn ends<C: Case>(mut case: C) {
+    for _ in 0..100_000 {
+        let next = case.smaller().next();
+        match next {
+            Some(smaller) => case = smaller,
+            None => return,
+        }
+    }
+    panic!("{} can be made smaller for ever", case.print());
+}
+
+#[test]
+fn cases_are_read_back_and_shrink() {
+    sound::<Root>();
+    sound::<LifecycleCase>();
+    sound::<SettingsCase>();
+    sound::<AssignmentCase>();
+    sound::<LeastCase>();
+    sound::<FilterCase>();
+    sound::<LineCase>();
+}
+
+#[test]
+fn calls_are_read_back_and_shrink() {
+    sound::<CallsCase>();
+}
+
+/// Asserts that each of the wanted numbers was met.
+fn met(found: BTreeSet<u32>, wanted: impl IntoIterator<Item = u32>) {
+    let missing: Vec<u32> = wanted
+        .into_iter()
+        .filter(|number| !found.contains(number))
+        .collect();
+    assert!(missing.is_empty(), "never met: {missing:?}");
+}
+
+#[test]
+fn settings_meet_every_field() {
+    let replies = some::<SettingsCase>(20_000)
+        .into_iter()
+        .map(|case| case.judged());
+    met(replies.map(|field| field.unwrap_or(0)).collect(), 0..=17);
+}
+
+#[test]
+fn tables_meet_every_refusal() {
+    let replies = some::<AssignmentCase>(5_000)
+        .into_iter()
+        .map(|case| case.judged());
+    met(
+        replies.map(|reply| reply.err().unwrap_or(0)).collect(),
+        [0, 9, 10, 11],
+    );
+}
+
+#[test]
+fn filters_meet_every_refusal() {
+    let replies = some::<FilterCase>(20_000)
+        .into_iter()
+        .flat_map(|case| case.judged());
+    met(replies.map(|reply| reply.number).collect(), [0, 5, 6, 7, 9]);
+}
+
+#[test]
+fn lines_meet_every_refusal() {
+    let refusal = |case: LineCase| {
+        let text = String::from_utf8(case.judged()).expect("text");
+        let number = text
+            .strip_prefix("(refused ")
+            .and_then(|rest| rest.strip_suffix(")\n"));
+        number.map_or(0, |number| number.parse().expect("a number"))
+    };
+    met(
+        some::<LineCase>(5_000).into_iter().map(refusal).collect(),
+        [0, 10, 11, 13],
+    );
+}
+
+#[test]
+fn worked_lines() {
+    let answer = |line: &str| String::from_utf8(LineCase(line.into()).judged()).expect("text");
+    let worked = "(answer (pairs (0 0) (1 1)) (rows) (columns))\n";
+    assert_eq!(answer("(assign 2 2 10 ((1 2) (- 4)))\n"), worked);
+    assert_eq!(
+        answer("(assign 0 3 10 ())\n"),
+        "(answer (pairs) (rows) (columns 0 1 2))\n"
+    );
+    assert_eq!(
+        answer("(assign 1 1 10 ((11)))\n"),
+        "(answer (pairs) (rows 0) (columns 0))\n"
+    );
+    for bad in [
+        "(assign 1 1 1 ((1)))",
+        "(assign 1 1 1 ((1)))\n\n",
+        "(assign 1 1 -0 ((1)))\n",
+        "(assign 1 1 - ((1)))\n",
+    ] {
+        assert_eq!(answer(bad), "(refused 13)\n", "{bad}");
+    }
+    assert_eq!(answer("(assign 1000001 0 1 ())\n"), "(refused 13)\n");
+    assert_eq!(answer("(assign 65 0 1 ())\n"), "(refused 11)\n");
+    assert_eq!(answer("(assign 1 1 1 ((1 1)))\n"), "(refused 10)\n");
+    assert_eq!(answer("(assign 1 1 1 ((1)  (1)))\n"), "(refused 13)\n");
+}
+
+#[test]
+fn the_longest_line() {
+    let of_length = |length: usize| {
+        LineCase::fixed()
+            .into_iter()
+            .find(|case| case.0.len() == length)
+    };
+    let answer =
+        |length| of_length(length).map(|case| String::from_utf8(case.judged()).expect("text"));
+    assert_eq!(answer(16_384).as_deref(), Some("(refused 10)\n"));
+    assert_eq!(answer(16_385).as_deref(), Some("(refused 13)\n"));
+}
+
+#[test]
+fn calls_meet_every_refusal() {
+    let number = |answer: Answer| match answer {
+        Answer::BadField(_) => 1,
+        Answer::Refused(number) => number,
+        Answer::Done | Answer::Reported(_) => 0,
+    };
+    let replies = some::<CallsCase>(6_000)
+        .into_iter()
+        .flat_map(|case| case.judged());
+    met(replies.map(|reply| number(reply.answer)).collect(), 0..=12);
+}
+
+#[test]
+fn the_rusts_pairings_are_least() {
+    for case in some::<LeastCase>(3_000) {
+        let given = AssignmentCase(case.0.clone())
+            .judged()
+            .expect("a whole table is taken");
+        assert_eq!(case.total_of(&given), case.judged());
+    }
+}

@@ -1,0 +1,30 @@
+//! The list of parts. A part whose archive is not linked is not in it.
+
+#[cfg(feature = "pikowhanu")]
+mod root;
+
+use trials::Part;
+
+/// A part as the command line uses it.
+pub struct Entry {
+    pub name: &'static str,
+    pub what: &'static str,
+    pub random: fn(seed: u64, count: Option<u64>) -> bool,
+    pub brief: fn(seed: u64) -> bool,
+    pub case: fn(words: &[String]) -> Result<bool, String>,
+}
+
+pub const PARTS: &[Entry] = &[
+    #[cfg(feature = "pikowhanu")]
+    entry::<root::RootPart>(),
+];
+
+const fn entry<P: Part>() -> Entry {
+    Entry {
+        name: P::NAME,
+        what: P::WHAT,
+        random: |seed, count| trials::random::<P>(seed, count.unwrap_or(P::COUNT)),
+        brief: |seed| trials::random::<P>(seed, P::BRIEF),
+        case: trials::case::<P>,
+    }
+}

@@ -1,0 +1,35 @@
+//! The specification's number for each error of the Rust.
+
+use crate::error::{InputError, NumericError, TrackerError};
+
+pub fn of(error: &TrackerError) -> u32 {
+    match error {
+        TrackerError::Input(error) => of_input(error),
+        TrackerError::Numeric(error) => of_numeric(error),
+    }
+}
+
+fn of_input(error: &InputError) -> u32 {
+    match error {
+        InputError::InvalidConfig { .. } => 1,
+        InputError::FrameMismatch { .. } => 2,
+        InputError::TimestampWentBackwards { .. } => 3,
+        InputError::DuplicateBatch { .. } => 4,
+        InputError::NonFiniteValue { .. } => 5,
+        InputError::InvalidCovariance { .. } => 6,
+        InputError::TimestampOverflow => 8,
+        InputError::InvalidBBox { .. }
+        | InputError::InvalidRotation { .. }
+        | InputError::InconsistentObservation { .. }
+        | InputError::InvalidScore { .. } => panic!("the 3D tracker does not give {error}"),
+    }
+}
+
+pub fn of_numeric(error: &NumericError) -> u32 {
+    match error {
+        NumericError::NotPositiveDefinite { .. } => 7,
+        NumericError::NonFiniteResult { .. } => 9,
+        NumericError::AssignmentFailed => 10,
+        NumericError::SolveFailed { .. } => panic!("the 3D tracker does not give {error}"),
+    }
+}

@@ -1,0 +1,4 @@
+//! The functions that our archives export, as Rust functions: what C sees, and nothing of how they work.
+
+#[cfg(feature = "pikowhanu")]
+pub mod pikowhanu;

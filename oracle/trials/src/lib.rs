@@ -1,0 +1,11 @@
+//! Runs of random cases, one place for all parts: progress, the smallest case that differs, a case alone.
+
+mod part;
+mod progress;
+mod run;
+
+pub use part::{Case, Part};
+pub use run::{case, random};
+
+#[cfg(test)]
+mod tests;

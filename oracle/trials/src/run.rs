@@ -1,0 +1,82 @@
+//! Runs of a part: fixed and random cases, one case alone, and the search for a smaller case that differs too.
+
+use inputs::Random;
+
+use crate::part::{Case, Part};
+use crate::progress::Progress;
+
+/// The fixed cases, then `count` random ones. Says what was found; true if nothing differs.
+pub fn random<P: Part>(seed: u64, count: u64) -> bool {
+    let fixed = P::Case::fixed();
+    match first_difference::<P>(&fixed, seed, count) {
+        None => {
+            println!(
+                "{}: {}: {} fixed and {count} random cases, seed {seed}: none differs",
+                P::NAME,
+                P::WHAT,
+                fixed.len()
+            );
+            true
+        }
+        Some((tried, case)) => {
+            println!("{}: case {tried} of seed {seed} differs", P::NAME);
+            report::<P>(&smallest::<P>(case));
+            false
+        }
+    }
+}
+
+/// One case, given by its words.
+pub fn case<P: Part>(words: &[String]) -> Result<bool, String> {
+    let case = P::Case::parse(words).ok_or_else(|| format!("{}: no such case", P::NAME))?;
+    if differs::<P>(&case) {
+        report::<P>(&case);
+        return Ok(false);
+    }
+    println!("{}: {}: {}: no difference", P::NAME, P::WHAT, case.print());
+    Ok(true)
+}
+
+fn differs<P: Part>(case: &P::Case) -> bool {
+    P::ours(case) != case.judged()
+}
+
+/// The first case that differs, and how many were tried with it.
+pub(crate) fn first_difference<P: Part>(
+    fixed: &[P::Case],
+    seed: u64,
+    count: u64,
+) -> Option<(u64, P::Case)> {
+    let mut random = Random::new(seed);
+    let mut progress = Progress::new(P::NAME, fixed.len() as u64 + count);
+    let more = (0..count).map(|_| P::Case::random(&mut random));
+    for (tried, case) in (1..).zip(fixed.iter().cloned().chain(more)) {
+        if differs::<P>(&case) {
+            progress.end();
+            return Some((tried, case));
+        }
+        progress.done(tried);
+    }
+    progress.end();
+    None
+}
+
+/// Goes to a smaller case that differs for as long as there is one.
+pub(crate) fn smallest<P: Part>(mut case: P::Case) -> P::Case {
+    loop {
+        let next = case.smaller().find(differs::<P>);
+        match next {
+            Some(smaller) => case = smaller,
+            None => return case,
+        }
+    }
+}
+
+fn report<P: Part>(case: &P::Case) {
+    let told = P::Case::told_apart(&P::ours(case), &case.judged());
+    println!(
+        "{told}\nalone: ./compare {} --case {}",
+        P::NAME,
+        case.print()
+    );
+}
