@@ -1,8 +1,8 @@
 -- Times and durations in nanoseconds, over the integers.
 use Prim.Native.Nat.{_^_}
-use mathlib.Core.Bool.{cond}
+use mathlib.Core.Bool.{Bool, false, cond}
 use lib.IntN.{ℤ, pos, negsuc, _-ℤ_}
-use lib.Dec.{ltb}
+use lib.Dec.{ltb, eqb}
 use lib.Signed.{mag}
 use lib.Ieee.{Float, binary64, div, ofInt, ofBits}
 use Rattle.number.specs.Reply.{Reply, refused, given}
@@ -29,3 +29,10 @@ counted (refused n) = pos 0
 
 unfoldable pub ageOf : ℤ → ℤ → ℤ
 ageOf now since = counted (durationReply now since)
+
+-- whether two times are the same
+abbrev pub sameTime : ℤ → ℤ → Bool
+sameTime (pos a) (pos b) = eqb a b
+sameTime (negsuc a) (negsuc b) = eqb a b
+sameTime (pos a) (negsuc b) = false
+sameTime (negsuc a) (pos b) = false
