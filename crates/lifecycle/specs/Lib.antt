@@ -1,1 +1,2 @@
 pub mod Lifecycle
+pub mod Sensors

@@ -55,7 +55,7 @@ registeredOf l time c =
       «created_at» = l .«created_at»;
       «last_observation» = At time;
       «last_counted» = At time;
-      «observation_times» = countedOf (l .«last_counted») time (l .«observation_times»)
+      «observation_times» = countedOf (l .«last_counted») time (l .«observation_times»);
     }
 
 -- earlier sightings count towards confirmation
@@ -66,7 +66,7 @@ creditedOf l n c =
       «created_at» = l .«created_at»;
       «last_observation» = l .«last_observation»;
       «last_counted» = l .«last_counted»;
-      «observation_times» = max (l .«observation_times») n
+      «observation_times» = max (l .«observation_times») n;
     }
 
 -- ---- time
@@ -101,7 +101,7 @@ unfoldable pub agedOf : TrackLifecycle → ℤ → LifecycleConfig → AgedLifec
 agedOf l now c =
     record {
       lifecycle = withState (settled c (ageOf now (referenceOf l)) (l .state)) l;
-      verdict = verdictOf (settled c (ageOf now (referenceOf l)) (l .state))
+      verdict = verdictOf (settled c (ageOf now (referenceOf l)) (l .state));
     }
 
 abbrev pub keptIf : Verdict → TrackLifecycle → Continued

@@ -3,6 +3,8 @@ ghost use mathlib.Core.Path.{_≡_};
 ghost use Prim.Native.Nat.{max};
 ghost use Rattle.lifecycle.specs.Lifecycle.{newOf, withState, countedOf, matured, observed, registeredOf, creditedOf, referenceOf, settled, verdictOf, agedOf, advancedOf};
 
+pub mod sensors;
+
 pub enum TrackLifecycleState {
     Tentative,
     Confirmed,

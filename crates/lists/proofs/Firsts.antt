@@ -6,9 +6,24 @@ use mathlib.Core.Option.{Option, none, some}
 use Prim.Native.Nat.{ℕ, suc, zero, _+_, _≤_, _<_, zero-le, suc-le-suc}
 use native.Mathlib.Omega.{arith}
 use lib.ListN.{length, take, drop, getD, set}
-use Rattle.lists.specs.First.{consed, changeIf, changeFirst}
+use Rattle.lists.specs.First.{any, consed, changeIf, changeFirst}
 
 module _ {A : Type 0} where
+  pub any-at : (p : A → Bool) (l : List A) (i : ℕ) (d : A) → i < length l → p (getD l i d) ≡ true → any p l ≡ true
+  unfolding any
+  any-at p [] i d h hits = absurd (omega arith)
+  any-at p (x ∷ xs) zero d h hits = rw hits
+  any-at p (x ∷ xs) (suc i) d h hits = go (p x) (any-at p xs i d (omega arith) hits)
+    where
+      go : (b : Bool) → any p xs ≡ true → cond b true (any p xs) ≡ true
+      go true e = refl
+      go false e = e
+
+  pub any-none : (p : A → Bool) (l : List A) (d : A) → ((k : ℕ) → k < length l → p (getD l k d) ≡ false) → any p l ≡ false
+  unfolding any
+  any-none p [] d misses = refl
+  any-none p (x ∷ xs) d misses = rw (misses zero (suc-le-suc zero-le)) (any-none p xs d (λ k q. misses (suc k) (suc-le-suc q)))
+
   pub change-at : (p : A → Bool) (f : A → A) (l : List A) (i : ℕ) (d : A) → i < length l
       → ((k : ℕ) → k < i → p (getD l k d) ≡ false) → p (getD l i d) ≡ true
       → changeFirst p f l ≡ some (set l i (f (getD l i d)))

@@ -6,14 +6,14 @@ use mathlib.Core.Option.{Option, none, some}
 use Prim.Native.Nat.{ℕ, suc, zero, _+_, _-_, _≤_, _<_, zero-le}
 use native.Mathlib.Omega.{arith}
 use native.Mathlib.Numerals.{add-one}
-use lib.ListN.{length, take, drop, getD, set, length-append, length-map, replicate, length-replicate, replicate-append-replicate}
-use lib.Seq.{take-suc, length-take-le, getD-take, drop-length}
+use lib.ListN.{length, take, drop, getD, set, length-append, length-map, length-drop}
+use lib.Seq.{take-suc, length-take-le, getD-take, getD-drop}
 use Rattle.lists.specs.Lay.{lay}
-use Rattle.lists.proofs.Laying.{set-lay, getD-lay, lay-front}
+use Rattle.lists.proofs.Laying.{set-lay, getD-lay}
 use Rattle.lists.specs.Sift.{sift, kept}
 use Rattle.lists.proofs.Sifting.{sift-more, sift-take-length}
-use Rattle.lists.specs.First.{changeFirst}
-use Rattle.lists.proofs.Firsts.{change-at, change-none}
+use Rattle.lists.specs.First.{any, changeFirst}
+use Rattle.lists.proofs.Firsts.{any-at, any-none, change-at, change-none}
 use borrow.Author.Count.{below-more}
 
 -- l's first i elements were sifted by f into m's first j
@@ -97,6 +97,15 @@ module _ {A : Type 0} (p : A → Bool) (d : A) where
   pub missed-more : (l : List A) (i : ℕ) → Missed p d l i → p (getD l i d) ≡ false → Missed p d l (i + 1)
   missed-more l i s e = record { misses = below-more _ _ (s .misses) e }
 
+  -- a search of l's first n elements finds one, or none
+  pub missed-found : (l : List A) (n i : ℕ) → n ≤ length l → i < n → p (getD l i d) ≡ true → any p (take n l) ≡ true
+  missed-found l n i h k e = any-at p (take n l) i d (omega (arith, length-take-le n l h)) (rw (getD-take n l i d k) e)
+
+  pub missed-any : (l : List A) (n : ℕ) → Missed p d l n → n ≤ length l → any p (take n l) ≡ false
+  missed-any l n s h =
+      any-none p (take n l) d
+      (λ j q. let b : j < n = omega (arith, length-take-le n l h) in rw (getD-take n l j d b) (s .misses j b))
+
   -- what a search of l's first n elements finds: the first, at i
   pub missed-hit : (f : A → A) (l : List A) (n i : ℕ) → Missed p d l i → n ≤ length l → i < n → p (getD l i d) ≡ true
       → changeFirst p f (take n l) ≡ some (set (take n l) i (f (getD l i d)))
@@ -109,41 +118,57 @@ module _ {A : Type 0} (p : A → Bool) (d : A) where
       change-none p f (take n l) d
       (λ j q. let b : j < n = omega (arith, length-take-le n l h) in rw (getD-take n l j d b) (s .misses j b))
 
--- l's elements from n on were set to b, up to i
-pub record Filled {A : Type 0} (b : A) (n : ℕ) (l m : List A) (i : ℕ) : Type 0 where
-  pub read : i ≤ length l
-  pub from : n ≤ i
-  pub slots : m ≡ lay (take n l ++ replicate (i - n) b) l
+-- l's elements from the second on were moved one place down, i of them
+pub record Shifted {A : Type 0} (l m : List A) (i : ℕ) : Type 0 where
+  pub read : i < length l
+  pub slots : m ≡ lay (take i (drop 1 l)) l
 
-module _ {A : Type 0} (b : A) (n : ℕ) where
-  pub filled-start : (l : List A) → n ≤ length l → Filled b n l l n
-  filled-start l h =
-      let z : n - n ≡ 0 = omega arith in
-      record { read = h; from = omega arith; slots = rw (z, append-nil (take n l)) (sym (lay-front n l h)) }
+module _ {A : Type 0} where
+  pub shifted-start : (l : List A) → 0 < length l → Shifted l l 0
+  unfolding lay
+  shifted-start l h = record { read = h; slots = refl }
 
-  filled-length : (l : List A) (i : ℕ) → n ≤ i → i ≤ length l → length (take n l ++ replicate (i - n) b) ≡ i
-  filled-length l i h k = simp (length-append, length-replicate) (omega (arith, length-take-le n l (omega arith)))
+  shifted-length : (l : List A) (i : ℕ) → i < length l → length (take i (drop 1 l)) ≡ i
+  shifted-length l i h = length-take-le i (drop 1 l) (omega (arith, length-drop 1 l))
 
-  pub filled-more : (l m : List A) (i : ℕ) → Filled b n l m i → i < length l → Filled b n l (set m i b) (i + 1)
-  filled-more l m i s h =
-      let k : length (take n l ++ replicate (i - n) b) ≡ i = filled-length l i (s .from) (s .read) in
-      let e : i + 1 - n ≡ (i - n) + 1 = omega (arith, s .from) in
-      let more : take n l ++ replicate (i + 1 - n) b ≡ (take n l ++ replicate (i - n) b) ++ (b ∷ []) =
-      rw (e, ← replicate-append-replicate (i - n) 1 b) (sym (append-assoc (take n l) (replicate (i - n) b) (b ∷ []))) in
+  pub shifted-more : (l m : List A) (i : ℕ) (d : A) → Shifted l m i → i + 1 < length l → Shifted l (set m i (getD m (i + 1) d)) (i + 1)
+  shifted-more l m i d s h =
+      let k : length (take i (drop 1 l)) ≡ i = shifted-length l i (s .read) in
+      let n : 1 + i ≡ i + 1 = omega arith in
+      let e : getD m (i + 1) d ≡ getD (drop 1 l) i d =
+      ap (λ (q : List A). getD q (i + 1) d) (s .slots)
+      ∙ getD-lay (take i (drop 1 l)) l (i + 1) d (omega arith)
+      ∙ ap (λ (j : ℕ). getD l j d) (sym n)
+      ∙ sym (getD-drop 1 l i d) in
+      let more : take (i + 1) (drop 1 l) ≡ take i (drop 1 l) ++ (getD (drop 1 l) i d ∷ []) =
+      ap (λ (j : ℕ). take j (drop 1 l)) (add-one i) ∙ take-suc (drop 1 l) i d (omega (arith, length-drop 1 l)) in
       record {
-        read = omega arith;
-        from = omega (arith, s .from);
+        read = h;
         slots =
-            ap (λ (q : List A). set q i b) (s .slots)
-            ∙ ap (λ (j : ℕ). set (lay (take n l ++ replicate (i - n) b) l) j b) (sym k)
-            ∙ set-lay (take n l ++ replicate (i - n) b) l b (omega arith)
+            ap (λ (x : A). set m i x) e
+            ∙ ap (λ (q : List A). set q i (getD (drop 1 l) i d)) (s .slots)
+            ∙ ap (λ (j : ℕ). set (lay (take i (drop 1 l)) l) j (getD (drop 1 l) i d)) (sym k)
+            ∙ set-lay (take i (drop 1 l)) l (getD (drop 1 l) i d) (omega arith)
             ∙ ap (λ (q : List A). lay q l) (sym more);
       }
 
-  pub filled-end : (l m : List A) → Filled b n l m (length l) → m ≡ take n l ++ replicate (length l - n) b
-  unfolding lay
-  filled-end l m s =
-      s .slots
-      ∙ ap (λ (j : ℕ). (take n l ++ replicate (length l - n) b) ++ drop j l) (filled-length l (length l) (s .from) (s .read))
-      ∙ ap (λ (q : List A). (take n l ++ replicate (length l - n) b) ++ q) (drop-length l)
-      ∙ append-nil (take n l ++ replicate (length l - n) b)
+  -- the first of n elements forgotten, and x put behind the others
+  pub shifted-store : (l m : List A) (n : ℕ) (x : A) → 0 < n → n ≤ length l → Shifted l m (n - 1) → set m (n - 1) x ≡ lay (drop 1 (take n l) ++ (x ∷ [])) l
+  shifted-store l m n x z h s =
+      let k : length (take (n - 1) (drop 1 l)) ≡ n - 1 = shifted-length l (n - 1) (s .read) in
+      ap (λ (q : List A). set q (n - 1) x) (s .slots)
+      ∙ ap (λ (j : ℕ). set (lay (take (n - 1) (drop 1 l)) l) j x) (sym k)
+      ∙ set-lay (take (n - 1) (drop 1 l)) l x (omega arith)
+      ∙ ap (λ (q : List A). lay (q ++ (x ∷ [])) l) (drop-one n l z)
+    where
+      take-nil : (n : ℕ) → take {A = A} n [] ≡ []
+      take-nil zero = refl
+      take-nil (suc n) = refl
+
+      drop-one : (n : ℕ) (l : List A) → 0 < n → take (n - 1) (drop 1 l) ≡ drop 1 (take n l)
+      drop-one zero l z = absurd (omega arith)
+      drop-one (suc n) [] z = take-nil (suc n - 1)
+      drop-one (suc n) (y ∷ l) z = ap (λ (j : ℕ). take j l) one-less
+        where
+          one-less : suc n - 1 ≡ n
+          one-less = omega arith

@@ -1,9 +1,13 @@
--- The first element that a test picks, changed; none where it picks none.
+-- Whether a test picks any element, and the first that it picks, changed; none where it picks none.
 use mathlib.Core.List.{List, [], _∷_}
-use mathlib.Core.Bool.{Bool, true, false}
+use mathlib.Core.Bool.{Bool, true, false, cond}
 use mathlib.Core.Option.{Option, none, some}
 
 module _ {A : Type 0} where
+  unfoldable pub any : (A → Bool) → List A → Bool
+  any p [] = false
+  any p (x ∷ xs) = cond (p x) true (any p xs)
+
   abbrev pub consed : A → Option (List A) → Option (List A)
   consed x none = none
   consed x (some l) = some (x ∷ l)

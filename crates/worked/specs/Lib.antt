@@ -1,3 +1,4 @@
 pub mod Case
 pub mod Roots
+pub mod Lifecycles
 pub mod Table

@@ -1,7 +1,8 @@
 -- All the cases that 01 marks as proved, in its order.
-use mathlib.Core.List.{List}
+use mathlib.Core.List.{List, _++_}
 use Rattle.worked.specs.Case.{Case}
 use Rattle.worked.specs.Roots.{rootCases}
+use Rattle.worked.specs.Lifecycles.{lifecycleCases}
 
 abbrev pub table : List Case
-table = rootCases
+table = rootCases ++ lifecycleCases

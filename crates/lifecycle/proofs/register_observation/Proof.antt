@@ -95,7 +95,7 @@ module _ {M : Type 1} (𝓤 : URA M) (H : Heap 𝓤) (A : Atoms 𝓤) (W : Given
 
   asked : Is T.the-row h (vals h) → ent 𝓤 (sem 𝓤 H A ftrue) (Core 𝓤 H A at-mem run .pre to)
   asked g =
-      qed W (‵ ftrue ∷ []) ∵ nothing ! $ owned ! LifecycleConfig-T.the-row (Is LifecycleConfig-T.the-row) (LL.makes LifecycleConfig-T.the-type LifecycleConfig-L.the-plain 𝓤 H A) p1 _ g1 $ fjoin ! $ owned ! i64 (Is i64) (sint-makes 𝓤 H A W w64) p0 _ g0 $ fjoin ! $ 
+      qed W (‵ ftrue ∷ []) ∵ nothing ! $ owned ! LifecycleConfig-T.the-row (Is LifecycleConfig-T.the-row) (LL.makes LifecycleConfig-T.the-type LifecycleConfig-L.the-plain 𝓤 H A) p1 _ g1 $ fjoin ! $ owned ! i64 (Is i64) (sint-makes 𝓤 H A W w64) p0 _ g0 $ fjoin ! $
       owned ! T.the-row (Is T.the-row) (LL.makes T.the-type T′.the-plain 𝓤 H A) h _ g $ fjoin ! $ move ! (1 ∷ 0 ∷ []) $ join ! $ frame ! $ done !
 
   -- of the callee's `ensured`, the clause alone
@@ -125,7 +125,7 @@ module _ {M : Type 1} (𝓤 : URA M) (H : Heap 𝓤) (A : Atoms 𝓤) (W : Given
         assigns ! (of-opd ! (unit-lit !)) (from ! (stop !)) (init ! 16 refl (tt, tt)) $
         move ! (1 ∷ 0 ∷ 3 ∷ 4 ∷ 5 ∷ []) $ closes ! tt T.the-row r (v ∷ []) b o $
         -- [obs; the borrow; the token; what the old record owns; the locals]
-        returns ! (look ! 14 refl) $ forget ! 4 refl $ forget ! 6 refl $ forget ! 8 refl $ forget ! 10 refl $ forget ! 12 refl $ forget ! 14 refl $ 
+        returns ! (look ! 14 refl) $ forget ! 4 refl $ forget ! 6 refl $ forget ! 8 refl $ forget ! 10 refl $ forget ! 12 refl $ forget ! 14 refl $
         move ! (14 ∷ 15 ∷ []) $ free1 ! $ move ! (12 ∷ 13 ∷ []) $ free1 ! $ move ! (10 ∷ 11 ∷ []) $ free1 ! $ move ! (8 ∷ 9 ∷ []) $ free1 ! $ move ! (6 ∷ 7 ∷ []) $ free1 ! $ move ! (4 ∷ 5 ∷ []) $ free1 ! $ free0 ! $
         keep ! (0 ∷ 1 ∷ 2 ∷ []) $ by ! (exits r e)))))))))))))
 

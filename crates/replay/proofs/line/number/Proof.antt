@@ -1,14 +1,14 @@
 use Prim.Native.Nat.{_-_, _≤_}
 use native.Mathlib.Omega.{arith}
 use borrow.Author.Needs.{needs}
-use Rattle.roots.proofs.bits.Statement.{statement}
-use Rattle.roots.proofs.bits.Tie as tie
+use Rattle.replay.proofs.line.number.Statement.{statement}
+use Rattle.replay.proofs.line.number.Tie as tie
 
 abbrev Inv-loop : tie.InvT-loop
-Inv-loop line at value₀ i₀ value i = i ≤ 16
+Inv-loop l at value₀ i₀ value i = i ≤ 16
 
 abbrev μ-loop : tie.MeasureT-loop
-μ-loop line at value₀ i₀ value i = 16 - i
+μ-loop l at value₀ i₀ value i = 16 - i
 
 loop-holds : tie.Need-loop-holds Inv-loop μ-loop
 loop-holds c = omega arith
@@ -40,5 +40,5 @@ loop-again c = omega arith
 returns : tie.Need-returns Inv-loop μ-loop
 returns c = search needs
 
-pub bits-spec : {M : Type 1} → statement M
-bits-spec = tie.close (tie.spec Inv-loop μ-loop loop-holds mul-value add-digit element-copy-out-digit digit-requires add-value add-i loop-less loop-again returns)
+pub number-spec : {M : Type 1} → statement M
+number-spec = tie.close (tie.spec Inv-loop μ-loop loop-holds mul-value add-digit element-copy-out-digit digit-requires add-value add-i loop-less loop-again returns)

@@ -1,0 +1,43 @@
+// Runs calls read from standard input and writes what each answers or leaves, so that recorded answers can be held to ours.
+// A line, read or written, is a letter and four numbers of 16 hexadecimal digits, each after a blank, and a newline. Calls that are read:
+//   Q number, by its bits: its root. Answers Q and the root's bits, or X and the refusal's number.
+//   G timeouts for Tentative, Confirmed and Lost, and the confirm count. Answers nothing.
+//   N created_at; R time; C count; A time: a new life, an observation, a credit, time moving on. Each answers the life as it is left: its state's letter, or D
+//     where the track is dropped, created_at, the last observation and the last counted time (0 where there is none), and the count, with 2^32 more where there
+//     is a last observation and 2^33 more where there is a last counted time.
+//   L limit: a list with no sensors. S sensor: one more. Each answers four lines: S and four of the sensors, 2^32 where the list has ended.
+mod line;
+mod lives;
+mod roots;
+
+use lives::Lives;
+
+// Runs one line's call.
+fn run(lives: Lives, l: &[u8; 70]) -> Lives {
+    let letter = l[0];
+    let first = line::number(l, 2);
+    if letter == b'Q' {
+        roots::answer(first);
+        lives
+    } else {
+        lives::run(
+            lives,
+            letter,
+            first,
+            line::number(l, 19),
+            line::number(l, 36),
+            line::number(l, 53),
+        )
+    }
+}
+
+fn main() {
+    let mut lives = lives::new();
+    for _ in 0..1099511627776u64 {
+        let mut l = [0u8; 70];
+        if io::read_full(0, &mut l) < 70 {
+            break;
+        }
+        lives = run(lives, &l);
+    }
+}
