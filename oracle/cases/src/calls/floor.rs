@@ -29,6 +29,9 @@ enum Mood {
     Huge,
 }
 
+/// Deviations of a measured velocity; the squares of the last two are infinite and zero.
+const DEVIATIONS: [f64; 10] = [0.5, 1.0, 0.1, 0.2, 2.0, 0.5, 1.0, 0.25, 1e200, 1e-200];
+
 struct Floor {
     mood: Mood,
     settings: Cartesian3DTrackerConfig,
@@ -125,7 +128,7 @@ fn settings(random: &mut Random, mood: Mood) -> Cartesian3DTrackerConfig {
         birth_persistence: sometimes(random, |r| one_of(r, &[2, 2, 3])),
         birth_candidate_radius_m: one_of(random, &[0.5, 2.0]),
         birth_candidate_timeout_ns: one_of(random, &[300_000_000, 1, i64::MAX]),
-        velocity_measurement_std: sometimes(random, |r| one_of(r, &[0.5, 1.0, 0.1, 1e200, 1e-200])),
+        velocity_measurement_std: sometimes(random, |r| one_of(r, &DEVIATIONS)),
         ..Cartesian3DTrackerConfig::default()
     }
 }
