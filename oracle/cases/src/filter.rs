@@ -109,7 +109,7 @@ fn seconds(random: &mut Random) -> f64 {
     let nanoseconds = match random.below(16) {
         0 => 1,
         1 => i64::MAX,
-        2 => random.next() as i64,
+        2 => random.draw() as i64,
         3 => 1_000_000_000,
         _ => random.below(2_000_000_000) as i64,
     };
