@@ -51,6 +51,7 @@ pub fn calls(random: &mut Random) -> CallsCase {
     let mut floor = Floor::new(random);
     let count = match floor.mood {
         Mood::Sensors => 40,
+        Mood::Crowded => 1 + random.below(8),
         _ => 1 + random.below(20),
     };
     let calls = (0..count).map(|_| floor.call(random)).collect();
