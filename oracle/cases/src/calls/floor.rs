@@ -1,5 +1,5 @@
-//! Random sequences of calls, made on a floor where a few people walk: near and far detections, several sensors, equal
-//! and jumping times, and now and then a call that is refused.
+//! Random sequences of calls, made on a floor where a few people walk: near and far detections, several sensors,
+//! equal and jumping times, and now and then a call that is refused.
 
 use factor_tracker_core::tracker::Cartesian3DTrackerConfig;
 use factor_tracker_core::types::{
