@@ -1,15 +1,17 @@
-//! Links each archive whose feature is on. ARCHIVES is the folder that holds them.
-
-const NAMES: [&str; 1] = ["pikowhanu"];
+//! Links each archive whose feature is on: a feature has its archive's name, and ARCHIVES is the folder of them all.
 
 fn main() {
     println!("cargo:rerun-if-env-changed=ARCHIVES");
-    for name in NAMES {
-        if std::env::var_os(format!("CARGO_FEATURE_{}", name.to_uppercase())).is_some() {
-            let folder = std::env::var("ARCHIVES").expect("ARCHIVES names the archives' folder");
-            println!("cargo:rerun-if-changed={folder}/lib{name}.a");
-            println!("cargo:rustc-link-search=native={folder}");
-            println!("cargo:rustc-link-lib=static={name}");
+    for (variable, _) in std::env::vars() {
+        if let Some(name) = variable.strip_prefix("CARGO_FEATURE_") {
+            link(&name.to_lowercase());
         }
     }
+}
+
+fn link(name: &str) {
+    let folder = std::env::var("ARCHIVES").expect("ARCHIVES names the archives' folder");
+    println!("cargo:rerun-if-changed={folder}/lib{name}.a");
+    println!("cargo:rustc-link-search=native={folder}");
+    println!("cargo:rustc-link-lib=static={name}");
 }

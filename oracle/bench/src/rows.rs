@@ -17,13 +17,16 @@ pub const ROWS: &[Entry] = &[
     entry::<root::Throughput>(),
     #[cfg(feature = "pikowhanu")]
     entry::<root::Latency>(),
+    #[cfg(feature = "pikowhanu")]
+    entry::<root::AnySize>(),
 ];
 
 /// What a reader must know of the rows.
 pub const NOTES: &str = "\
-root: of 16 inputs 14 lie from 2^-20 to 2^20, 1 is a normal number of any size, 1 is subnormal. Ours is called
-through C, as any caller has it; the machine's is one scalar instruction, inlined, as compiled Rust has it.
-Throughput takes each root on its own; latency makes each input wait for the root before it.";
+root: of normal numbers from 2^-20 to 2^20, as the tracker has them; of any size: every exponent, 1 in 16 subnormal,
+on which the machine is slower too. Ours is called through C, as any caller has it; the machine's is one scalar
+instruction, inlined, as compiled Rust has it. Throughput takes each root on its own; latency makes each input wait
+for the root before it.";
 
 const fn entry<R: Row>() -> Entry {
     Entry {

@@ -24,7 +24,30 @@ enum Costs {
     Wide,
     /// Near the largest numbers, where steps overflow.
     Huge,
+    /// As far below zero as the cost that stands for a forbidden pair is above it, so that such a pair may be given.
+    Forbidding,
 }
+
+const KINDS: [Costs; 6] = [
+    Costs::Ties,
+    Costs::Whole,
+    Costs::Distances,
+    Costs::Wide,
+    Costs::Huge,
+    Costs::Forbidding,
+];
+
+/// Where the largest cost is 0 or 1, a forbidden pair stands for 1,001,000,000 or one more.
+const FORBIDDING: [f64; 8] = [
+    0.0,
+    1.0,
+    -1.0,
+    -1_000_999_999.0,
+    -1_001_000_000.0,
+    -1_001_000_001.0,
+    -2_002_000_000.0,
+    -1_000_050_000.0,
+];
 
 impl Costs {
     fn cost(self, random: &mut Random) -> f64 {
@@ -35,6 +58,7 @@ impl Costs {
             Costs::Wide => {
                 floats::within(random, 1.0) * 2.0_f64.powi(random.below(200) as i32 - 100)
             }
+            Costs::Forbidding => FORBIDDING[random.below(FORBIDDING.len() as u64) as usize],
             Costs::Huge => [
                 0.0,
                 1.0,
@@ -73,14 +97,7 @@ impl Case for AssignmentCase {
 
     fn random(random: &mut Random) -> Self {
         let (rows, columns) = (side(random), side(random));
-        let kinds = [
-            Costs::Ties,
-            Costs::Whole,
-            Costs::Distances,
-            Costs::Wide,
-            Costs::Huge,
-        ];
-        let kind = kinds[random.below(5) as usize];
+        let kind = KINDS[random.below(KINDS.len() as u64) as usize];
         let share = random.below(5);
         let length = match random.below(32) {
             0 => rows * columns + 1,

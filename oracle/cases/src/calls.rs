@@ -2,6 +2,8 @@
 
 mod floor;
 
+use std::fmt::Debug;
+
 use factor_tracker_core::judge::report::Report;
 use factor_tracker_core::judge::state::TrackerState;
 use factor_tracker_core::judge::tracker::Tracker;
@@ -131,8 +133,44 @@ impl Case for CallsCase {
     }
 
     fn told_apart(ours: &Vec<CallReply>, theirs: &Vec<CallReply>) -> String {
-        words::first_difference(ours, theirs)
+        let call = ours.iter().zip(theirs).take_while(|(a, b)| a == b).count();
+        match (ours.get(call), theirs.get(call)) {
+            (Some(ours), Some(theirs)) => format!("after call {call}\n{}", parted(ours, theirs)),
+            _ => words::first_difference(ours, theirs),
+        }
     }
+}
+
+/// What differs in two replies: the answers, or else one field of the states.
+fn parted(ours: &CallReply, theirs: &CallReply) -> String {
+    let (
+        CallReply {
+            answer: a,
+            state: Some(s),
+        },
+        CallReply {
+            answer: b,
+            state: Some(t),
+        },
+    ) = (ours, theirs)
+    else {
+        return side_by_side("replies", ours, theirs);
+    };
+    if a != b {
+        return side_by_side("answers", a, b);
+    }
+    if s.tracks != t.tracks {
+        return format!("tracks: {}", words::first_difference(&s.tracks, &t.tracks));
+    }
+    if s.birth_candidates != t.birth_candidates {
+        return side_by_side("candidates", &s.birth_candidates, &t.birth_candidates);
+    }
+    let rest = |s: &TrackerState| (s.next_track_id, s.last_time, s.last_sequence.clone());
+    side_by_side("next number, last time and sequences", &rest(s), &rest(t))
+}
+
+fn side_by_side(what: &str, ours: &impl Debug, theirs: &impl Debug) -> String {
+    format!("{what}\nours   {ours:?}\noracle {theirs:?}")
 }
 
 fn fewer_detections(call: &Call) -> impl Iterator<Item = Call> + '_ {

@@ -48,10 +48,11 @@ impl StepReply {
 impl Step {
     fn random(random: &mut Random) -> Self {
         match random.below(5) {
-            0 => Step::Predict {
-                dt: seconds(random),
-                q: density(random),
-            },
+            0 => {
+                let dt = seconds(random);
+                let q = density(random, dt);
+                Step::Predict { dt, q }
+            }
             1 => Step::Velocity {
                 z: [place(random), place(random)],
                 std: deviation(random),
@@ -109,19 +110,23 @@ fn seconds(random: &mut Random) -> f64 {
     let nanoseconds = match random.below(16) {
         0 => 1,
         1 => i64::MAX,
-        2 => random.next() as i64,
+        2 => random.draw() as i64,
         3 => 1_000_000_000,
         _ => random.below(2_000_000_000) as i64,
     };
     nanoseconds as f64 / 1e9
 }
 
-fn density(random: &mut Random) -> f64 {
-    match random.below(16) {
-        0 => 0.0,
-        1 => -0.0,
-        2 => 2.0_f64.powi(random.below(2040) as i32 - 1020),
-        3 | 4 => 1.0,
+/// A density, sometimes one at which a term of the noise over `dt` just overflows.
+fn density(random: &mut Random, dt: f64) -> f64 {
+    let near_largest = |term: f64| (f64::MAX / term.abs()).min(f64::MAX);
+    match random.below(32) {
+        0 | 1 => 0.0,
+        2 => -0.0,
+        3 => 2.0_f64.powi(random.below(2040) as i32 - 1020),
+        4 => near_largest(dt * dt * dt) * (0.5 + floats::unit(random)),
+        5 => near_largest(dt * dt) * (0.5 + floats::unit(random)),
+        6..=9 => 1.0,
         _ => floats::positive(random, 4),
     }
 }

@@ -32,7 +32,7 @@ pub fn edge(random: &mut Random) -> f64 {
 
 /// A number from 0 up and below 1, of 53 digits.
 pub fn unit(random: &mut Random) -> f64 {
-    (random.next() >> 11) as f64 / (1_u64 << 53) as f64
+    (random.draw() >> 11) as f64 / (1_u64 << 53) as f64
 }
 
 /// A number up to `limit` on either side of zero: often a whole one or one of few digits, so that sums and ties are

@@ -75,7 +75,7 @@ fn any_time(random: &mut Random) -> i64 {
     match random.below(4) {
         0 => i64::MIN + random.below(2) as i64,
         1 => i64::MAX - random.below(2) as i64,
-        2 => random.next() as i64,
+        2 => random.draw() as i64,
         _ => random.below(5) as i64 - 2,
     }
 }

@@ -177,3 +177,24 @@ fn the_rusts_pairings_are_least() {
         assert_eq!(case.total_of(&given), case.judged());
     }
 }
+
+#[test]
+fn replies_to_calls_are_told_apart() {
+    let case = some::<CallsCase>(200)
+        .into_iter()
+        .find(|case| case.judged().len() > 3);
+    let theirs = case.expect("a long case").judged();
+    let mut ours = theirs.clone();
+    let state = ours[2].state.as_mut().expect("a state");
+    state.next_track_id += 1;
+    let told = CallsCase::told_apart(&ours, &theirs);
+    assert!(told.starts_with("after call 2\nnext number"), "{told}");
+    ours[1].answer = Answer::Refused(99);
+    let told = CallsCase::told_apart(&ours, &theirs);
+    assert!(
+        told.contains("after call 1\nanswers\nours   Refused(99)"),
+        "{told}"
+    );
+    ours.truncate(1);
+    assert!(CallsCase::told_apart(&ours, &theirs).contains("no reply"));
+}

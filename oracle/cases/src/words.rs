@@ -137,7 +137,7 @@ pub fn first_difference<R: Debug + PartialEq>(ours: &[R], theirs: &[R]) -> Strin
     };
     let step = ours.iter().zip(theirs).take_while(|(a, b)| a == b).count();
     format!(
-        "reply {step} is the first that differs\nours   {}\noracle {}",
+        "number {step} is the first that differs\nours   {}\noracle {}",
         shown(ours, step),
         shown(theirs, step)
     )

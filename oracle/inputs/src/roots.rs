@@ -40,17 +40,16 @@ pub fn any(random: &mut Random) -> u64 {
 }
 
 /// A normal number from 2⁻²⁰ up and below 2²⁰, as squared distances and variances of a shop floor are.
-fn everyday(random: &mut Random) -> u64 {
+pub fn everyday(random: &mut Random) -> u64 {
     let exponent = 1023 - 20 + random.below(40);
-    (exponent << 52) | (random.next() & MANTISSA)
+    (exponent << 52) | (random.draw() & MANTISSA)
 }
 
-/// A mix for measuring: in each 16, 14 of everyday size, 1 normal number of any size and 1 subnormal.
-pub fn measured(random: &mut Random) -> u64 {
+/// Any finite number above zero, for measuring: in each 16, 15 normal ones and 1 subnormal.
+pub fn finite(random: &mut Random) -> u64 {
     match random.below(16) {
         0 => subnormal(random),
-        1 => normal(random),
-        _ => everyday(random),
+        _ => normal(random),
     }
 }
 
@@ -97,16 +96,16 @@ fn with_neighbours(pattern: u64) -> [u64; 3] {
 
 fn subnormal(random: &mut Random) -> u64 {
     let digits = 1 + random.below(52);
-    (random.next() & MANTISSA) >> (52 - digits)
+    (random.draw() & MANTISSA) >> (52 - digits)
 }
 
 fn normal(random: &mut Random) -> u64 {
-    ((1 + random.below(0x7FE)) << 52) | (random.next() & MANTISSA)
+    ((1 + random.below(0x7FE)) << 52) | (random.draw() & MANTISSA)
 }
 
 /// Half of these are negative; the exponent of all ones, for infinities and NaNs, is as likely as the rest.
 fn anything(random: &mut Random) -> u64 {
-    let bits = random.next();
+    let bits = random.draw();
     if random.below(2) == 0 {
         bits | INFINITY
     } else {
@@ -125,7 +124,7 @@ fn beside_square(random: &mut Random) -> u64 {
 
 /// The two patterns round the square of a number halfway between two roots: where a root is hardest to round.
 fn beside_halfway(random: &mut Random) -> [u64; 2] {
-    let q = u128::from((1 << 52) | (random.next() & MANTISSA));
+    let q = u128::from((1 << 52) | (random.draw() & MANTISSA));
     let square = q * q + q;
     let digits = 128 - square.leading_zeros();
     let mantissa = (square >> (digits - 53)) as u64;
@@ -133,7 +132,7 @@ fn beside_halfway(random: &mut Random) -> [u64; 2] {
     let exponent = 1023 + u64::from(digits - 105);
     let shift = 2 * random.below(500);
     let pattern =
-        (((exponent + shift) << 52) | (mantissa & MANTISSA)) - (random.below(2) * 500 << 52);
+        (((exponent + shift) << 52) | (mantissa & MANTISSA)) - ((random.below(2) * 500) << 52);
     [pattern, pattern + 1]
 }
 

@@ -9,10 +9,11 @@ use crate::measure::Row;
 
 const INPUTS: usize = 4096;
 const PASSES: usize = 8;
+const MACHINE: &str = "the machine's sqrt";
 
-fn inputs() -> Vec<u64> {
+fn inputs(pattern: fn(&mut Random) -> u64) -> Vec<u64> {
     let mut random = Random::new(1);
-    (0..INPUTS).map(|_| roots::measured(&mut random)).collect()
+    (0..INPUTS).map(|_| pattern(&mut random)).collect()
 }
 
 /// Each root on its own. Each answer passes through `black_box`, so that roots are neither dropped nor taken two
@@ -40,16 +41,18 @@ fn chain(inputs: &[u64], root: impl Fn(f64) -> f64) -> u64 {
     (PASSES * inputs.len()) as u64
 }
 
+/// Each root on its own, of numbers as the tracker has them.
 pub struct Throughput {
     inputs: Vec<u64>,
 }
 
 impl Row for Throughput {
     const NAME: &'static str = "root, throughput";
-    const THEIRS: &'static str = "the machine's sqrt";
+    const THEIRS: &'static str = MACHINE;
 
     fn new() -> Self {
-        Throughput { inputs: inputs() }
+        let inputs = inputs(roots::everyday);
+        Throughput { inputs }
     }
 
     fn ours(&self) -> u64 {
@@ -61,16 +64,18 @@ impl Row for Throughput {
     }
 }
 
+/// Each root after the one before, of numbers as the tracker has them.
 pub struct Latency {
     inputs: Vec<u64>,
 }
 
 impl Row for Latency {
     const NAME: &'static str = "root, latency";
-    const THEIRS: &'static str = "the machine's sqrt";
+    const THEIRS: &'static str = MACHINE;
 
     fn new() -> Self {
-        Latency { inputs: inputs() }
+        let inputs = inputs(roots::everyday);
+        Latency { inputs }
     }
 
     fn ours(&self) -> u64 {
@@ -79,5 +84,28 @@ impl Row for Latency {
 
     fn theirs(&self) -> u64 {
         chain(&self.inputs, f64::sqrt)
+    }
+}
+
+/// Each root on its own, of numbers of every size.
+pub struct AnySize {
+    inputs: Vec<u64>,
+}
+
+impl Row for AnySize {
+    const NAME: &'static str = "root of any size, throughput";
+    const THEIRS: &'static str = MACHINE;
+
+    fn new() -> Self {
+        let inputs = inputs(roots::finite);
+        AnySize { inputs }
+    }
+
+    fn ours(&self) -> u64 {
+        each(&self.inputs, pikowhanu::root)
+    }
+
+    fn theirs(&self) -> u64 {
+        each(&self.inputs, f64::sqrt)
     }
 }

@@ -1,5 +1,5 @@
-//! Random sequences of calls, made on a floor where a few people walk: near and far detections, several sensors, equal
-//! and jumping times, and now and then a call that is refused.
+//! Random sequences of calls, made on a floor where a few people walk: near and far detections, several sensors,
+//! equal and jumping times, and now and then a call that is refused.
 
 use factor_tracker_core::tracker::Cartesian3DTrackerConfig;
 use factor_tracker_core::types::{
@@ -27,7 +27,12 @@ enum Mood {
     Times,
     /// Numbers so large that distances overflow.
     Huge,
+    /// Second boxes on a grid round one who stands still, where distances are equal.
+    Grid,
 }
+
+/// Deviations of a measured velocity; the squares of the last two are infinite and zero.
+const DEVIATIONS: [f64; 10] = [0.5, 1.0, 0.1, 0.2, 2.0, 0.5, 1.0, 0.25, 1e200, 1e-200];
 
 struct Floor {
     mood: Mood,
@@ -48,6 +53,7 @@ pub fn calls(random: &mut Random) -> CallsCase {
     let mut floor = Floor::new(random);
     let count = match floor.mood {
         Mood::Sensors => 40,
+        Mood::Crowded => 1 + random.below(8),
         _ => 1 + random.below(20),
     };
     let calls = (0..count).map(|_| floor.call(random)).collect();
@@ -89,6 +95,12 @@ fn far_out(random: &mut Random) -> [f64; 3] {
     [limit * floats::unit(random), 0.0, 0.0]
 }
 
+/// A place of few, whose offsets from one another have exact lengths, or lengths that are equal.
+fn on_a_grid(random: &mut Random) -> [f64; 3] {
+    let step = |random: &mut Random| 0.25 * (random.below(7) as f64 - 3.0);
+    [step(random), one_of(random, &[0.0, 0.0, 0.25]), 0.0]
+}
+
 fn one_of<T: Copy>(random: &mut Random, items: &[T]) -> T {
     items[random.below(items.len() as u64) as usize]
 }
@@ -114,7 +126,7 @@ fn settings(random: &mut Random, mood: Mood) -> Cartesian3DTrackerConfig {
         Mood::Huge => &[f64::MAX, 1e300, 16.266],
         _ => &[16.266, 16.266, 1.0, 100.0],
     };
-    Cartesian3DTrackerConfig {
+    let settings = Cartesian3DTrackerConfig {
         common: common(random, mood),
         accel_spectral_density: one_of(random, &[1.0, 0.0, -0.0, 8.0, 1e280]),
         initial_velocity_variance: one_of(random, &[4.0, 0.25, 1e-300]),
@@ -125,9 +137,26 @@ fn settings(random: &mut Random, mood: Mood) -> Cartesian3DTrackerConfig {
         birth_persistence: sometimes(random, |r| one_of(r, &[2, 2, 3])),
         birth_candidate_radius_m: one_of(random, &[0.5, 2.0]),
         birth_candidate_timeout_ns: one_of(random, &[300_000_000, 1, i64::MAX]),
-        velocity_measurement_std: sometimes(random, |r| one_of(r, &[0.5, 1.0, 0.1, 1e200, 1e-200])),
+        velocity_measurement_std: sometimes(random, |r| one_of(r, &DEVIATIONS)),
         ..Cartesian3DTrackerConfig::default()
+    };
+    match mood {
+        Mood::Grid => settings_of_the_grid(random, settings),
+        _ => settings,
     }
+}
+
+/// Candidates are kept, and the grid has lengths that are equal to the distance and to the radius.
+fn settings_of_the_grid(
+    random: &mut Random,
+    mut settings: Cartesian3DTrackerConfig,
+) -> Cartesian3DTrackerConfig {
+    settings.common.new_track_score_threshold = None;
+    settings.min_birth_distance_m = Some(one_of(random, &[0.75, 2.0]));
+    settings.birth_persistence = Some(one_of(random, &[2, 3, 4]));
+    settings.birth_candidate_radius_m = one_of(random, &[0.5, 0.75, 2.0]);
+    settings.birth_candidate_timeout_ns = one_of(random, &[300_000_000, i64::MAX]);
+    settings
 }
 
 impl Floor {
@@ -137,20 +166,20 @@ impl Floor {
             1 => Mood::Sensors,
             2 => Mood::Times,
             3 => Mood::Huge,
+            4 | 5 => Mood::Grid,
             _ => Mood::Everyday,
         };
-        let (people, sensors) = match mood {
-            Mood::Crowded => (40, 2),
-            Mood::Sensors => (1, 34),
-            _ => (random.below(5), 1 + random.below(3) as usize),
+        let (people, sensors, limit) = match mood {
+            Mood::Crowded => (40, 2, 300.0),
+            Mood::Sensors => (1, 34, 6.0),
+            Mood::Grid => (1, 1, 0.0),
+            _ => (random.below(5), 1 + random.below(3) as usize, 6.0),
         };
-        let limit = if mood == Mood::Crowded { 300.0 } else { 6.0 };
+        let place = |random: &mut Random| [0.0; 3].map(|_| floats::within(random, limit));
         Floor {
             mood,
             settings: settings(random, mood),
-            people: (0..people)
-                .map(|_| [0.0; 3].map(|_| floats::within(random, limit)))
-                .collect(),
+            people: (0..people).map(|_| place(random)).collect(),
             sequences: vec![0; sensors],
             time: if mood == Mood::Times { i64::MIN } else { 0 },
         }
@@ -199,19 +228,10 @@ impl Floor {
         if random.below(40) > 0 {
             self.sequences[sensor] += 1 + random.below(2);
         }
-        self.people
-            .iter_mut()
-            .flatten()
-            .for_each(|x| *x += floats::within(random, 0.1));
-        let mut observations: Vec<_> = self
-            .people
-            .clone()
-            .into_iter()
-            .filter_map(|p| self.seen(random, p))
-            .collect();
+        let mut observations = self.walk(random);
         let more = match self.mood {
             Mood::Crowded => random.below(30),
-            Mood::Huge => random.below(5),
+            Mood::Huge | Mood::Grid => random.below(5),
             _ => random.below(3),
         };
         observations.extend((0..more).map(|_| self.clutter(random)));
@@ -230,10 +250,21 @@ impl Floor {
         }
     }
 
-    /// A person, seen or missed.
-    fn seen(&self, random: &mut Random, person: [f64; 3]) -> Option<Position3DObservation> {
-        let place = person.map(|x| x + floats::within(random, 0.2));
-        (random.below(5) > 0).then(|| self.dressed(random, place))
+    /// Everybody takes a step, and most are seen.
+    fn walk(&mut self, random: &mut Random) -> Vec<Position3DObservation> {
+        let (step, error) = match self.mood {
+            Mood::Grid => (0.0, 0.0),
+            _ => (0.1, 0.2),
+        };
+        let mut seen = Vec::new();
+        for person in &mut self.people {
+            *person = person.map(|x| x + floats::within(random, step));
+            if random.below(5) > 0 {
+                let place = person.map(|x| x + floats::within(random, error));
+                seen.push(dressed(random, place));
+            }
+        }
+        seen
     }
 
     /// A second box beside a person, a place where nobody is, or one beyond all sense.
@@ -242,34 +273,35 @@ impl Floor {
         let place = match (random.below(8), self.mood) {
             (0, Mood::Huge) => [0.0; 3].map(|_| floats::within(random, 1e200)),
             (_, Mood::Huge) => far_out(random),
+            (_, Mood::Grid) => on_a_grid(random),
             (0..=3, _) => beside.map(|x| x + floats::within(random, 1.0)),
             (4, _) => [0.0; 3].map(|_| one_of(random, &[0.0, -0.0, 2.0])),
             _ => [0.0; 3].map(|_| floats::within(random, 300.0)),
         };
-        self.dressed(random, place)
+        dressed(random, place)
     }
+}
 
-    /// A detection at a place, with all that it may carry.
-    fn dressed(&self, random: &mut Random, place: [f64; 3]) -> Position3DObservation {
-        let place = match random.below(200) {
-            0 => place.map(|_| floats::edge(random)),
-            _ => place,
-        };
-        let rows = match random.below(6) {
-            0 => covariance(random),
-            _ => [[0.04, 0.0, 0.0], [0.0, 0.04, 0.0], [0.0, 0.0, 0.04]],
-        };
-        Position3DObservation {
-            class_label: sometimes(random, |random| ClassLabel::new(random.below(3) as u32)),
-            score: sometimes(random, |random| match random.below(8) {
-                0 => floats::edge(random),
-                _ => floats::unit(random),
-            }),
-            velocity: sometimes(random, |random| match random.below(100) {
-                0 => vector2([floats::edge(random), 0.0]),
-                _ => vector2([floats::within(random, 2.0), floats::within(random, 2.0)]),
-            }),
-            ..detection(place, rows)
-        }
+/// A detection at a place, with all that it may carry.
+fn dressed(random: &mut Random, place: [f64; 3]) -> Position3DObservation {
+    let place = match random.below(200) {
+        0 => place.map(|_| floats::edge(random)),
+        _ => place,
+    };
+    let rows = match random.below(6) {
+        0 => covariance(random),
+        _ => [[0.04, 0.0, 0.0], [0.0, 0.04, 0.0], [0.0, 0.0, 0.04]],
+    };
+    Position3DObservation {
+        class_label: sometimes(random, |random| ClassLabel::new(random.below(3) as u32)),
+        score: sometimes(random, |random| match random.below(8) {
+            0 => floats::edge(random),
+            _ => floats::unit(random),
+        }),
+        velocity: sometimes(random, |random| match random.below(100) {
+            0 => vector2([floats::edge(random), 0.0]),
+            _ => vector2([floats::within(random, 2.0), floats::within(random, 2.0)]),
+        }),
+        ..detection(place, rows)
     }
 }

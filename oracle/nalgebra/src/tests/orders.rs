@@ -11,7 +11,7 @@ fn entry(random: &mut Random) -> f64 {
     let sign = random.below(2) << 63;
     let magnitude = match random.below(4) {
         0 => (random.below(9) as f64).to_bits(),
-        _ => roots::measured(random) & !(0x7FF << 52) | (1023 - 3 + random.below(6)) << 52,
+        _ => roots::everyday(random) & !(0x7FF << 52) | (1023 - 3 + random.below(6)) << 52,
     };
     f64::from_bits(sign | magnitude)
 }
