@@ -1,6 +1,6 @@
 // Runs calls read from standard input and writes what each answers or leaves, so that recorded answers can be held to ours.
 // A line, read or written, is a letter and four numbers of 16 hexadecimal digits, each after a blank, and a newline. Calls that are read:
-//   Q number, by its bits: its root. Answers Q and the root's bits, or X and the refusal's number.
+//   Q four numbers, by their bits: their roots. Answers Q and the roots' bits; a refusal's number, which is no root's bits, where one is refused.
 //   G timeouts for Tentative, Confirmed and Lost, and the confirm count. Answers nothing.
 //   N created_at; R time; C count; A time: a new life, an observation, a credit, time moving on. Each answers the life as it is left: its state's letter, or D
 //     where the track is dropped, created_at, the last observation and the last counted time (0 where there is none), and the count, with 2^32 more where there
@@ -16,18 +16,14 @@ use lives::Lives;
 fn run(lives: Lives, l: &[u8; 70]) -> Lives {
     let letter = l[0];
     let first = line::number(l, 2);
+    let second = line::number(l, 19);
+    let third = line::number(l, 36);
+    let fourth = line::number(l, 53);
     if letter == b'Q' {
-        roots::answer(first);
+        roots::write(first, second, third, fourth);
         lives
     } else {
-        lives::run(
-            lives,
-            letter,
-            first,
-            line::number(l, 19),
-            line::number(l, 36),
-            line::number(l, 53),
-        )
+        lives::run(lives, letter, first, second, third, fourth)
     }
 }
 

@@ -10,18 +10,21 @@ fn number_of(b: u64) -> f64 {
     }
 }
 
-// Writes the root of the number with the bits b.
-pub fn answer(b: u64) {
+// The bits of the root of the number with the bits b, or the refusal's number.
+fn answer(b: u64) -> u64 {
     match number::root::root(number_of(b)) {
         SquareRoot::Value(v) => {
             if v == v {
-                super::line::write(b'Q', f64::to_bits(v), 0, 0, 0);
+                f64::to_bits(v)
             } else {
-                super::line::write(b'Q', 0x7ff8_0000_0000_0000, 0, 0, 0);
+                0x7ff8_0000_0000_0000
             }
         }
-        SquareRoot::Refused => {
-            super::line::write(b'X', 9, 0, 0, 0);
-        }
+        SquareRoot::Refused => 9,
     }
+}
+
+// Writes the roots of four numbers.
+pub fn write(a: u64, b: u64, c: u64, d: u64) {
+    super::line::write(b'Q', answer(a), answer(b), answer(c), answer(d));
 }

@@ -7,6 +7,7 @@ pub mod least;
 pub mod lifecycle;
 pub mod line;
 pub mod root;
+pub mod sensors;
 pub mod settings;
 
 mod covariances;

@@ -1,7 +1,11 @@
-//! The list of parts. A part whose archive is not linked is not in it.
+//! The list of parts. A part whose archive or program is not built is not in it.
 
+#[cfg(feature = "replay")]
+mod lifecycle;
 #[cfg(feature = "pikowhanu")]
 mod root;
+#[cfg(feature = "replay")]
+mod sensors;
 
 use trials::Part;
 
@@ -17,6 +21,10 @@ pub struct Entry {
 pub const PARTS: &[Entry] = &[
     #[cfg(feature = "pikowhanu")]
     entry::<root::RootPart>(),
+    #[cfg(feature = "replay")]
+    entry::<lifecycle::LifecyclePart>(),
+    #[cfg(feature = "replay")]
+    entry::<sensors::SensorsPart>(),
 ];
 
 const fn entry<P: Part>() -> Entry {

@@ -1,31 +1,46 @@
-//! Writes the stored cases that the gate's programs replay: recorder NAME FILE.
+//! Writes what the gate's program replay reads, and what it must write: recorder FOLDER, for FOLDER/stdin and FOLDER/stdout.
 
+mod lives;
 mod root;
+mod sensors;
 
+use std::path::Path;
 use std::process::ExitCode;
 
-/// A kind of stored case: its name, and the text of its file.
-const KINDS: [(&str, fn() -> String); 1] = [("root", root::text)];
+use replay::Line;
+
+/// Calls, and the oracle's answers to them, in order.
+#[derive(Default)]
+struct Recording {
+    calls: Vec<Line>,
+    answers: Vec<Line>,
+}
 
 fn main() -> ExitCode {
     let words: Vec<String> = std::env::args().skip(1).collect();
-    let [name, file] = words.as_slice() else {
-        return usage();
+    let [folder] = words.as_slice() else {
+        eprintln!("usage: oracle/record FOLDER");
+        return ExitCode::from(2);
     };
-    let Some((_, text)) = KINDS.iter().find(|(kind, _)| kind == name) else {
-        return usage();
-    };
-    let text = text();
-    if let Err(error) = std::fs::write(file, &text) {
-        eprintln!("recorder: {file}: {error}");
-        return ExitCode::FAILURE;
+    let mut recording = Recording::default();
+    root::record(&mut recording);
+    lives::record(&mut recording);
+    sensors::record(&mut recording);
+    match write(&recording, Path::new(folder)) {
+        Ok(()) => {
+            let (calls, answers) = (recording.calls.len(), recording.answers.len());
+            println!("{folder}: {calls} calls, {answers} lines of answers");
+            ExitCode::SUCCESS
+        }
+        Err(error) => {
+            eprintln!("recorder: {folder}: {error}");
+            ExitCode::FAILURE
+        }
     }
-    println!("{name}: {} lines in {file}", text.lines().count());
-    ExitCode::SUCCESS
 }
 
-fn usage() -> ExitCode {
-    let names = KINDS.map(|(kind, _)| kind).join(", ");
-    eprintln!("usage: oracle/record NAME FILE, where NAME is one of: {names}");
-    ExitCode::from(2)
+fn write(recording: &Recording, folder: &Path) -> std::io::Result<()> {
+    let text = |lines: &[Line]| lines.iter().map(Line::text).collect::<String>();
+    std::fs::write(folder.join("stdin"), text(&recording.calls))?;
+    std::fs::write(folder.join("stdout"), text(&recording.answers))
 }

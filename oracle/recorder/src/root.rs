@@ -1,26 +1,35 @@
-//! Roots at the edges and at random: a line for each, 16 capital hexadecimal digits of the input's bits, a blank,
-//! 16 of the answer's, or `refused 9` filled up with blanks.
+//! Roots at the edges and at random, four to a line.
 
 use inputs::{roots, Random};
+use replay::Line;
 
-/// The seed of the random lines, and how many there are.
+use crate::Recording;
+
+/// The seed of the random patterns, and how many there are.
 const SEED: u64 = 1;
-const RANDOM_LINES: usize = 400;
+const RANDOM: usize = 400;
 
-pub fn text() -> String {
+/// The refusal of a NaN and of a number below zero. It is the pattern of no root.
+const REFUSED: u64 = 9;
+
+pub fn record(recording: &mut Recording) {
     let mut random = Random::new(SEED);
-    let more = (0..RANDOM_LINES).map(|_| roots::any(&mut random));
-    roots::edges().into_iter().chain(more).map(line).collect()
+    let more = (0..RANDOM).map(|_| roots::any(&mut random));
+    let patterns: Vec<u64> = roots::edges().into_iter().chain(more).collect();
+    for four in patterns.chunks(4) {
+        // The last line is filled up with zeros, whose root is zero.
+        let numbers = [0, 1, 2, 3].map(|place| four.get(place).copied().unwrap_or(0));
+        recording.calls.push(Line::new('Q', numbers));
+        recording.answers.push(Line::new('Q', numbers.map(answer)));
+    }
 }
 
-fn line(bits: u64) -> String {
+fn answer(bits: u64) -> u64 {
     let x = f64::from_bits(bits);
-    let answer = if x >= 0.0 {
-        format!("{:016X}", x.sqrt().to_bits())
-    } else {
-        format!("{:<16}", "refused 9")
-    };
-    format!("{bits:016X} {answer}\n")
+    match x >= 0.0 {
+        true => x.sqrt().to_bits(),
+        false => REFUSED,
+    }
 }
 
 #[cfg(test)]
@@ -28,23 +37,15 @@ mod tests {
     use super::*;
 
     #[test]
-    fn lines_have_one_width() {
-        assert_eq!(
-            line(4.0_f64.to_bits()),
-            "4010000000000000 4000000000000000\n"
-        );
-        assert_eq!(
-            line(2.0_f64.to_bits()),
-            "4000000000000000 3FF6A09E667F3BCD\n"
-        );
-        assert_eq!(
-            line((-1.0_f64).to_bits()),
-            "BFF0000000000000 refused 9       \n"
-        );
-        assert_eq!(
-            line((-0.0_f64).to_bits()),
-            "8000000000000000 8000000000000000\n"
-        );
-        assert!(text().lines().all(|line| line.len() == 33));
+    fn roots_and_refusals() {
+        assert_eq!(answer(4.0_f64.to_bits()), 2.0_f64.to_bits());
+        assert_eq!(answer(2.0_f64.to_bits()), 0x3FF6_A09E_667F_3BCD);
+        assert_eq!(answer((-0.0_f64).to_bits()), (-0.0_f64).to_bits());
+        assert_eq!(answer((-1.0_f64).to_bits()), REFUSED);
+        assert_eq!(answer(f64::NAN.to_bits()), REFUSED);
+        let mut recording = Recording::default();
+        record(&mut recording);
+        let answers = recording.answers.iter().flat_map(|line| line.numbers);
+        assert!(answers.into_iter().any(|answer| answer == REFUSED));
     }
 }

@@ -1,0 +1,9 @@
+//! Calls of our program replay: the lines that it reads and writes, and how to run it.
+
+mod line;
+pub mod lives;
+mod program;
+pub mod sensors;
+
+pub use line::Line;
+pub use program::answers;
