@@ -24,8 +24,8 @@ enum Costs {
     Wide,
     /// Near the largest numbers, where steps overflow.
     Huge,
-    /// As far below zero as the cost that stands for a forbidden pair is above it, so that such a pair may be given.
-    Forbidding,
+    /// So far below zero that the cost that stands for a forbidden pair is lost beside them, and such a pair is given.
+    Absorbing,
 }
 
 const KINDS: [Costs; 6] = [
@@ -34,20 +34,10 @@ const KINDS: [Costs; 6] = [
     Costs::Distances,
     Costs::Wide,
     Costs::Huge,
-    Costs::Forbidding,
+    Costs::Absorbing,
 ];
 
-/// Where the largest cost is 0 or 1, a forbidden pair stands for 1,001,000,000 or one more.
-const FORBIDDING: [f64; 8] = [
-    0.0,
-    1.0,
-    -1.0,
-    -1_000_999_999.0,
-    -1_001_000_000.0,
-    -1_001_000_001.0,
-    -2_002_000_000.0,
-    -1_000_050_000.0,
-];
+const ABSORBING: [f64; 7] = [0.0, 1.0, -1.0, -1e24, -1e26, -2e26, -4.5e24];
 
 impl Costs {
     fn cost(self, random: &mut Random) -> f64 {
@@ -58,7 +48,7 @@ impl Costs {
             Costs::Wide => {
                 floats::within(random, 1.0) * 2.0_f64.powi(random.below(200) as i32 - 100)
             }
-            Costs::Forbidding => FORBIDDING[random.below(FORBIDDING.len() as u64) as usize],
+            Costs::Absorbing => ABSORBING[random.below(ABSORBING.len() as u64) as usize],
             Costs::Huge => [
                 0.0,
                 1.0,

@@ -92,6 +92,17 @@ fn tables_meet_every_refusal() {
     );
 }
 
+/// Outside the range that is proved, the Rust may give a forbidden pair.
+#[test]
+fn tables_meet_a_forbidden_pair_given() {
+    let given = |case: &AssignmentCase| {
+        let pairs = case.judged().map(|given| given.pairs).unwrap_or_default();
+        let cost = |(i, j): (usize, usize)| case.0.costs[i * case.0.columns + j];
+        pairs.into_iter().any(|pair| !cost(pair).is_finite())
+    };
+    assert!(some::<AssignmentCase>(5_000).iter().any(given));
+}
+
 #[test]
 fn filters_meet_every_refusal() {
     let replies = some::<FilterCase>(20_000)
