@@ -1,0 +1,5 @@
+pub mod Ranges
+pub mod Places
+pub mod Ends
+pub mod Back
+pub mod Examples
