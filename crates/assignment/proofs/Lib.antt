@@ -1,0 +1,2 @@
+pub mod Forests
+pub mod Unions

@@ -1,0 +1,2 @@
+// The least-cost pairing of rows with columns, and who is left: joined groups, each by the steps of `hungarian_square`.
+mod union_find;
