@@ -3,3 +3,4 @@ pub mod Places
 pub mod Ends
 pub mod Back
 pub mod Examples
+pub mod Labels
