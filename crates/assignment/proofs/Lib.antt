@@ -1,2 +1,5 @@
 pub mod Forests
 pub mod Unions
+pub mod RowJoins
+pub mod Items
+pub mod Names

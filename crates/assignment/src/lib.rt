@@ -1,2 +1,3 @@
 // The least-cost pairing of rows with columns, and who is left: joined groups, each by the steps of `hungarian_square`.
+mod groups;
 mod union_find;
