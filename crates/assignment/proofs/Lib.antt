@@ -3,3 +3,4 @@ pub mod Unions
 pub mod RowJoins
 pub mod Items
 pub mod Names
+pub mod Picking
