@@ -4,3 +4,6 @@ pub mod RowJoins
 pub mod Items
 pub mod Names
 pub mod Picking
+pub mod Takes
+pub mod Groupings
+pub mod Solving

@@ -4,3 +4,4 @@ pub mod Ends
 pub mod Back
 pub mod Examples
 pub mod Labels
+pub mod Kept

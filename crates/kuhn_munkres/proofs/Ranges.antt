@@ -132,7 +132,7 @@ module _ {N : Type 0} (O : Ops N) where
       let h' = set-all (λ (y : ℕ). y ≤ n) p 0 j (getD p (getD way j 0) 0) (h (getD way j 0)) h in
       ended-all (λ (l : List ℕ). (i : ℕ) → getD l i 0 ≤ n) (eqb (getD way j 0) 0) p' (back O k way p' (getD way j 0)) h' (back-le n k way p' (getD way j 0) h')
 
-  back-length : (k : ℕ) (way p : List ℕ) (j : ℕ) → length (back O k way p j) ≡ length p
+  pub back-length : (k : ℕ) (way p : List ℕ) (j : ℕ) → length (back O k way p j) ≡ length p
   unfolding back
   back-length zero way p j = refl
   back-length (suc k) way p j =
