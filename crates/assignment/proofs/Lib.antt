@@ -7,3 +7,4 @@ pub mod Picking
 pub mod Takes
 pub mod Groupings
 pub mod Solving
+pub mod Calls

@@ -1,13 +1,14 @@
 // The row that takes each column, group after group.
 ghost use mathlib.Core.Path.{_≡_};
 ghost use Prim.Native.Nat.{_+_, _*_, _≤_, _<_};
-ghost use lib.ListN.{length, take};
+ghost use lib.ListN.{length, take, replicate};
 ghost use Rattle.kuhn_munkres.specs.Binary64.{float};
 ghost use Rattle.kuhn_munkres.specs.Square.{entry};
 ghost use Rattle.kuhn_munkres.specs.Steps.{rows};
+ghost use Rattle.kuhn_munkres.specs.Assignment.{rowsOf, pairing};
 ghost use Rattle.hungarian.specs.Structs.{squareFrom};
 ghost use Rattle.hungarian.specs.Ends.{endOf, pickEnd};
-ghost use Rattle.assignment.specs.Taking.{takerNumber, Taken, Call, GroupTaken, AllTaken};
+ghost use Rattle.assignment.specs.Taking.{takerNumber, takersOf, replyIf, Taken, Call, GroupTaken, AllTaken};
 
 // The row of the whole table for the row t of a group's square, which has r rows of its own; rows of a square count from 1. 64 for a dummy.
 fn taker(t: usize, r: usize, members: &[usize; 64]) -> usize
@@ -143,4 +144,17 @@ fn solve_groups(
         }
     }
     true
+}
+
+// The row that takes each column of a table, into `takers`, which has 64 everywhere at first. False for a step that is not finite.
+pub fn pair_table(costs: &[f64], rows: usize, columns: usize, row_cost: f64, column_cost: f64, takers: &mut [usize; 64]) -> bool
+    requires { ⌜ (rows ≤ 64) × (columns ≤ 64) × (length (now costs) ≡ rows * columns) × (now takers ≡ replicate 64 64) ⌝ }
+    ensures { λ ok. ⌜ (replyIf ok (takersOf columns (now (takers .exit))) ≡ pairing «row_cost» «column_cost» (rowsOf rows columns (now (costs .entry))) columns) × (length (now (takers .exit)) ≡ 64) ⌝ }
+{
+    let names = crate::groups::named_groups(costs, rows, columns);
+    let row_names = names.of_rows;
+    let column_names = names.of_columns;
+    let largest = crate::table::largest_finite(costs, number::float::larger(row_cost, column_cost));
+    let prices = Prices { far: crate::table::sentinel(largest), row: row_cost, column: column_cost };
+    solve_groups(costs, rows, columns, &row_names, &column_names, prices, takers)
 }
