@@ -8,3 +8,5 @@ pub mod Takes
 pub mod Groupings
 pub mod Solving
 pub mod Calls
+pub mod Listings
+pub mod Answers

@@ -147,7 +147,14 @@ fn solve_groups(
 }
 
 // The row that takes each column of a table, into `takers`, which has 64 everywhere at first. False for a step that is not finite.
-pub fn pair_table(costs: &[f64], rows: usize, columns: usize, row_cost: f64, column_cost: f64, takers: &mut [usize; 64]) -> bool
+pub fn pair_table(
+    costs: &[f64],
+    rows: usize,
+    columns: usize,
+    row_cost: f64,
+    column_cost: f64,
+    takers: &mut [usize; 64],
+) -> bool
     requires { ⌜ (rows ≤ 64) × (columns ≤ 64) × (length (now costs) ≡ rows * columns) × (now takers ≡ replicate 64 64) ⌝ }
     ensures { λ ok. ⌜ (replyIf ok (takersOf columns (now (takers .exit))) ≡ pairing «row_cost» «column_cost» (rowsOf rows columns (now (costs .entry))) columns) × (length (now (takers .exit)) ≡ 64) ⌝ }
 {
@@ -155,6 +162,18 @@ pub fn pair_table(costs: &[f64], rows: usize, columns: usize, row_cost: f64, col
     let row_names = names.of_rows;
     let column_names = names.of_columns;
     let largest = crate::table::largest_finite(costs, number::float::larger(row_cost, column_cost));
-    let prices = Prices { far: crate::table::sentinel(largest), row: row_cost, column: column_cost };
-    solve_groups(costs, rows, columns, &row_names, &column_names, prices, takers)
+    let prices = Prices {
+        far: crate::table::sentinel(largest),
+        row: row_cost,
+        column: column_cost,
+    };
+    solve_groups(
+        costs,
+        rows,
+        columns,
+        &row_names,
+        &column_names,
+        prices,
+        takers,
+    )
 }
