@@ -1,0 +1,12 @@
+pub mod Forests
+pub mod Unions
+pub mod RowJoins
+pub mod Items
+pub mod Names
+pub mod Picking
+pub mod Takes
+pub mod Groupings
+pub mod Solving
+pub mod Calls
+pub mod Listings
+pub mod Answers

@@ -1,0 +1,38 @@
+use borrow.Author.Needs.{needs}
+use native.Mathlib.Omega.{arith}
+use mathlib.Core.Path.{_≡_, refl, sym, ap, _∙_, subst}
+use Prim.Native.Nat.{ℕ, _+_, _-_, _*_, _≤_, _<_}
+use native.Mathlib.Nat.{mul-le-mul-right}
+use lib.ListN.{length, getD, take}
+use Rattle.assignment.proofs.Solving.{group-unborne, group-empty, group-fits, group-failed, group-solved}
+use Rattle.assignment.proofs.takers.solve_group.Statement.{statement}
+use Rattle.assignment.proofs.takers.solve_group.Tie as tie
+
+returns : tie.Need-returns
+returns c = let s = c .before .before .before in (s .pre .2, s .pre .3, group-unborne _ _ _ _ _ _ _ _ (s .pre .0) _ (s .pre .1) _ (s .pre .4) (c .if1 .taken))
+
+count-named-requires : tie.Need-count-named-requires
+count-named-requires c κs = c .before .before .before .pre .0 .columns-few
+
+returns-2 : tie.Need-returns-2
+returns-2 c = let s = c .before .before .before .before .before in (s .pre .2, s .pre .3, group-empty _ _ _ _ _ _ _ _ (s .pre .0) _ (s .pre .1) _ _ (s .pre .4) (c .before .count-named .ensures) (c .if2 .taken))
+
+gather-requires : tie.Need-gather-requires
+gather-requires c κs = let s = c .before .before .before .before .before .before .before in let q = s .pre .0 in (q .rows-few, q .columns-few, q .size, s .pre .2, s .pre .3)
+
+solve-front-requires : tie.Need-solve-front-requires
+solve-front-requires c κs = let s = c .before .before .before .before .before .before .before .before .before .before .before in let q = s .pre .0 in group-fits _ _ _ _ _ _ _ _ _ _ (q .rows-few) (q .columns-few) (c .before .before .before .gather .ensures) (c .before .before .before .before .before .before .before .count-named .ensures)
+
+returns-3 : tie.Need-returns-3
+returns-3 c = let s = c .before .before .before .before .before .before .before .before .before .before .before .before .before in let G = c .before .before .before .before .before .gather .ensures in (G .long, G .members-long, group-failed _ _ _ _ _ _ _ _ (s .pre .0) _ (s .pre .1) (c .before .before .before .before .before .before .before .before .before .before .if1 .left) _ (c .before .before .before .before .before .before .before .before .before .count-named .ensures) (c .before .before .before .before .before .before .before .before .if2 .left) _ _ _ G _ _ _ (s .pre .4) (c .if3 .taken) (c .before .solve-front .ensures))
+
+take-columns-requires : tie.Need-take-columns-requires
+take-columns-requires c κs = let s = c .before .before .before .before .before .before .before .before .before .before .before .before .before .before .before .before in let q = s .pre .0 in (q .columns-few, group-fits _ _ _ _ _ _ _ _ _ _ (q .rows-few) (q .columns-few) (c .before .before .before .before .before .before .before .before .gather .ensures) (c .before .before .before .before .before .before .before .before .before .before .before .before .count-named .ensures) .0, s .pre .4)
+
+returns-4 : tie.Need-returns-4
+returns-4 c = let s = c .before .before .before .before .before .before .before .before .before .before .before .before .before .before .before .before .before in let G = c .before .before .before .before .before .before .before .before .before .gather .ensures in (G .long, G .members-long, group-solved _ _ _ _ _ _ _ _ (s .pre .0) _ (s .pre .1) (c .before .before .before .before .before .before .before .before .before .before .before .before .before .before .if1 .left) _ (c .before .before .before .before .before .before .before .before .before .before .before .before .before .count-named .ensures) (c .before .before .before .before .before .before .before .before .before .before .before .before .if2 .left) _ _ _ G _ _ _ _ (s .pre .4) (c .before .before .before .before .if3 .left) (c .before .before .before .before .before .solve-front .ensures) (c .take-columns .ensures))
+
+pub solve-group-spec : {M : Type 1} → statement M
+solve-group-spec =
+    tie.close
+    (tie.spec (λ c. search needs) (λ c. search needs) returns count-named-requires returns-2 gather-requires solve-front-requires returns-3 take-columns-requires returns-4)

@@ -1,0 +1,50 @@
+-- What a pass over numbered places keeps, in order, and how the arrays of the code hold it.
+use mathlib.Core.Path.{_≡_}
+use mathlib.Core.Bool.{Bool, true, false, cond}
+use mathlib.Core.List.{List, [], _∷_, _++_, map}
+use mathlib.Core.Option.{Option}
+use Prim.Native.Nat.{ℕ, zero, suc, _+_, _*_, _≤_, _<_}
+use lib.ListN.{getD, length, take}
+use lib.Dec.{eqb}
+use lib.Ieee.{Float, nan}
+use Rattle.kuhn_munkres.specs.Assignment.{inOne}
+
+abbrev pub addIf : {A : Type 0} → Bool → A → List A → List A
+addIf true x l = l ++ (x ∷ [])
+addIf false x l = l
+
+-- f's values at the places below n that the mask names
+unfoldable pub picked : {A : Type 0} → (ℕ → Bool) → (ℕ → A) → ℕ → List A
+picked m f zero = []
+picked m f (suc n) = addIf (m n) (f n) (picked m f n)
+
+-- how many places below n the mask names
+unfoldable pub ticks : (ℕ → Bool) → ℕ → ℕ
+ticks m zero = 0
+ticks m (suc n) = cond (m n) (suc (ticks m n)) (ticks m n)
+
+-- the places whose name is g
+abbrev pub bears : List ℕ → ℕ → ℕ → Bool
+bears names g i = eqb (getD names i 0) g
+
+-- l laid at k, up to r
+pub record Laid {A : Type 0} (size : ℕ) (before after : List A) (k r : ℕ) (l : List A) : Type 0 where
+  pub long : length after ≡ size
+  pub end : r ≡ k + length l
+  pub is : take r after ≡ take k before ++ l
+
+-- the costs of row i in the columns of group g
+abbrev pub groupRow : List Float → ℕ → List ℕ → ℕ → ℕ → List Float
+groupRow costs m columnNames g i = picked (bears columnNames g) (λ j. getD costs (i * m + j) nan) m
+
+-- the own table of group g: of the first n rows, those of the group
+abbrev pub groupTable : List Float → ℕ → List ℕ → List ℕ → ℕ → ℕ → List (List Float)
+groupTable costs m rowNames columnNames g n = picked (bears rowNames g) (groupRow costs m columnNames g) n
+
+-- the own table of group g in the front of `own`, and its rows in the front of `members`
+pub record Gathered (costs : List Float) (n m : ℕ) (rowNames columnNames : List ℕ) (g : ℕ) (own : List Float) (members : List ℕ) (r : ℕ) : Type 0 where
+  pub long : length own ≡ 4096
+  pub members-long : length members ≡ 64
+  pub count : r ≡ ticks (bears rowNames g) n
+  pub table : take (r * ticks (bears columnNames g) m) own ≡ inOne (groupTable costs m rowNames columnNames g n)
+  pub members-are : take r members ≡ picked (bears rowNames g) (λ i. i) n

@@ -1,0 +1,6 @@
+pub mod LoopTurns
+pub mod Mask
+pub mod Entries
+pub mod Turn
+pub mod Path
+pub mod Rows

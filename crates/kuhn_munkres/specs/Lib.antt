@@ -1,0 +1,8 @@
+pub mod Ops
+pub mod Steps
+pub mod Ranges
+pub mod Square
+pub mod Binary64
+pub mod Strike
+pub mod Groups
+pub mod Assignment

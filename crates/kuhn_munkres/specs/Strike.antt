@@ -1,0 +1,39 @@
+-- Masks: which elements of a list stay, and what is put back at those that stayed.
+use mathlib.Core.List.{List, [], _∷_}
+use mathlib.Core.Bool.{Bool, true, false, _||_}
+use Prim.Native.Nat.{ℕ, zero, suc}
+
+module _ {A : Type 0} where
+  unfoldable pub strike : List Bool → List A → List A
+  strike [] l = []
+  strike (b ∷ k) [] = []
+  strike (true ∷ k) (x ∷ l) = x ∷ strike k l
+  strike (false ∷ k) (x ∷ l) = strike k l
+
+  -- the elements of l, in order, at the places of t that the mask names
+  unfoldable pub spread : List Bool → List A → List A → List A
+  spread [] l t = t
+  spread (b ∷ m) l [] = []
+  spread (true ∷ m) [] (o ∷ t) = o ∷ spread m [] t
+  spread (true ∷ m) (x ∷ l) (o ∷ t) = x ∷ spread m l t
+  spread (false ∷ m) l (o ∷ t) = o ∷ spread m l t
+
+-- how many stay
+unfoldable pub count : List Bool → ℕ
+count [] = zero
+count (true ∷ k) = suc (count k)
+count (false ∷ k) = count k
+
+unfoldable pub anyOf : {A : Type 0} → (A → Bool) → List A → Bool
+anyOf p [] = false
+anyOf p (x ∷ l) = p x || anyOf p l
+
+-- k, k + 1, .., as many as the list has
+unfoldable pub upFrom : {A : Type 0} → ℕ → List A → List ℕ
+upFrom k [] = []
+upFrom k (x ∷ l) = k ∷ upFrom (suc k) l
+
+unfoldable pub zipped : {A B C : Type 0} → (A → B → C) → List A → List B → List C
+zipped f [] m = []
+zipped f (x ∷ l) [] = []
+zipped f (x ∷ l) (y ∷ m) = f x y ∷ zipped f l m

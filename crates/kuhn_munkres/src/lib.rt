@@ -1,0 +1,1 @@
+// The definition of the assignment and its laws stand in specs/ and proofs/; there is no code here.
