@@ -12,7 +12,7 @@ fn dot2(x: [f64; 2], y: [f64; 2]) -> f64
 }
 
 // x times y, three terms.
-fn dot3(x: [f64; 3], y: [f64; 3]) -> f64
+pub fn dot3(x: [f64; 3], y: [f64; 3]) -> f64
     ensures { λ r. ⌜ r ≡ dot 3 x y ⌝ }
 {
     x[0] * y[0] + x[1] * y[1] + x[2] * y[2]

@@ -1,0 +1,3 @@
+pub mod Factors
+pub mod Solving
+pub mod Answers

@@ -1,0 +1,4 @@
+pub mod Refusing
+pub mod Checks
+pub mod Cholesky
+pub mod Linalg
