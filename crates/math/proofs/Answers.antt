@@ -8,7 +8,7 @@ use Rattle.number.specs.Reply.{Reply, refused, given}
 use Rattle.matrix.specs.Matrix.{Vector, Matrix, nought, dot}
 use Rattle.math.specs.Checks.{finiteVector, finiteMatrix, isSymmetric}
 use Rattle.math.specs.Cholesky.{cholesky, solved}
-use Rattle.math.specs.Linalg.{validated, distanceReply, distanceBy, squaredDistance}
+use Rattle.math.specs.Linalg.{factorable, validated, distanceReply, distanceBy, squaredDistance}
 
 -- ---- a squared distance
 
@@ -46,13 +46,17 @@ module _ (n : ℕ) (u : Vector) (s : Matrix) where
 -- ---- a covariance
 
 module _ (n : ℕ) (a : Matrix) where
-  pub valid : {l : Matrix} → finiteMatrix n n a ≡ true → isSymmetric n a ≡ true → given l ≡ cholesky n a → given tt ≡ validated n a
-  unfolding validated
-  valid f s e = rw (f, s, ← e)
+  pub has-factor : {l : Matrix} → given l ≡ cholesky n a → given tt ≡ factorable n a
+  unfolding factorable
+  has-factor e = rw (← e)
 
-  pub not-definite : {m : ℕ} → finiteMatrix n n a ≡ true → isSymmetric n a ≡ true → refused m ≡ cholesky n a → refused m ≡ validated n a
+  pub no-factor : {m : ℕ} → refused m ≡ cholesky n a → refused m ≡ factorable n a
+  unfolding factorable
+  no-factor e = rw (← e)
+
+  pub factor-decides : {r : Reply (Unit {0})} → finiteMatrix n n a ≡ true → isSymmetric n a ≡ true → r ≡ factorable n a → r ≡ validated n a
   unfolding validated
-  not-definite f s e = rw (f, s, ← e)
+  factor-decides f s e = rw (f, s) e
 
   pub not-symmetric : finiteMatrix n n a ≡ true → isSymmetric n a ≡ false → refused 6 ≡ validated n a
   unfolding validated

@@ -28,8 +28,11 @@ abbrev pub remainder : Matrix → Matrix → ℕ → ℕ → Float
 remainder a columns i j = lessEach j (λ k. mul binary64 (entry columns k i) (entry columns k j)) (entry a i j)
 
 -- column j of n items: +0 above the pivot's root, quotients below it
+abbrev pub columnEntry : Matrix → Matrix → ℕ → Float → ℕ → Float
+columnEntry a columns j root i = cond (ltb i j) nought (cond (eqb i j) root (div binary64 (remainder a columns i j) root))
+
 unfoldable pub columnBy : ℕ → Matrix → Matrix → ℕ → Float → Vector
-columnBy n a columns j root = tabulate n (λ i. cond (ltb i j) nought (cond (eqb i j) root (div binary64 (remainder a columns i j) root)))
+columnBy n a columns j root = tabulate n (λ i. columnEntry a columns j root i)
 
 -- the root of a pivot that is greater than 0
 abbrev pub orFails : Bool → Reply Float → Reply Float

@@ -1,6 +1,6 @@
 -- What the functions of `linalg` answer, in 01's numbers.
 use Prim.Native.Nat.{ℕ}
-use mathlib.Core.Bool.{Bool, true, false, cond}
+use mathlib.Core.Bool.{cond}
 use mathlib.Core.List.{List, [], _∷_}
 use lib.Ieee.{Float, lt}
 use lib.Ieee.Scale.{finite}
@@ -24,9 +24,13 @@ use Rattle.math.specs.Cholesky.{cholesky, solved}
 
 -- ---- definitions
 
+-- whether a matrix has a factor
+unfoldable pub factorable : ℕ → Matrix → Reply (Unit {0})
+factorable n a = andThen (cholesky n a) (λ l. given tt)
+
 -- 01, Filter: "Covariance checks run finite, symmetric, Cholesky."
 unfoldable pub validated : ℕ → Matrix → Reply (Unit {0})
-validated n a = refuseUnless (finiteMatrix n n a) 5 (refuseUnless (isSymmetric n a) 6 (andThen (cholesky n a) (λ l. given tt)))
+validated n a = refuseUnless (finiteMatrix n n a) 5 (refuseUnless (isSymmetric n a) 6 (factorable n a))
 
 -- 01, Matrix: "Squared distance that isn't above 0 is given as +0." 01, Batch: "7, 9 not finite".
 unfoldable pub distanceReply : Float → Reply Float
@@ -38,11 +42,6 @@ distanceBy n l u = refuseUnless (finiteVector n (solved n l u)) 9 (distanceReply
 
 unfoldable pub squaredDistance : ℕ → Vector → Matrix → Reply Float
 squaredDistance n u s = andThen (cholesky n s) (λ l. distanceBy n l u)
-
--- whether a matrix has a factor
-abbrev pub isGiven : {A : Type 0} → Reply A → Bool
-isGiven (refused n) = false
-isGiven (given a) = true
 
 -- ---- the answers
 

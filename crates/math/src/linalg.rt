@@ -3,8 +3,8 @@ ghost use mathlib.Core.Path.{_≡_};
 ghost use mathlib.Core.List.{List, [], _∷_};
 ghost use Rattle.matrix.specs.Matrix.{nought};
 ghost use Rattle.math.specs.Checks.{finiteVector, finiteMatrix, largestInRow, largest, skewRow, skew, isSymmetric};
-ghost use Rattle.math.specs.Cholesky.{pivotRoot, columnsFrom, cholesky, forward, backward, solved, gainBy};
-ghost use Rattle.math.specs.Linalg.{validated, distanceReply, distanceBy, squaredDistance, replyOfValidity, replyOfDistance, replyOfPivot, columnsOf2, columnsOf3, replyOfFactor2, replyOfFactor3};
+ghost use Rattle.math.specs.Cholesky.{remainder, columnEntry, columnBy, pivotRoot, columnsFrom, cholesky, forward, backward, solved, gainBy};
+ghost use Rattle.math.specs.Linalg.{factorable, validated, distanceReply, distanceBy, squaredDistance, replyOfValidity, replyOfDistance, replyOfPivot, columnsOf2, columnsOf3, replyOfFactor2, replyOfFactor3};
 ghost use Prim.Native.Nat.{_<_};
 
 // Why a matrix or a result is refused.
@@ -512,6 +512,83 @@ pub fn validate_covariance3(a: [[f64; 3]; 3]) -> Validity
                 Factor3::Lower(_) => Validity::Valid,
                 Factor3::Fails => Validity::Refused(Refusal::NotPositiveDefinite),
             }
+        } else {
+            Validity::Refused(Refusal::NotSymmetric)
+        }
+    } else {
+        Validity::Refused(Refusal::NonFiniteValue)
+    }
+}
+
+// Entry i, j of a, less what the columns before column j take away.
+fn remainder6(a: [[f64; 6]; 6], l: [[f64; 6]; 6], i: usize, j: usize) -> f64
+    requires { ⌜ (i < 6) × (j < 6) ⌝ }
+    ensures { λ r. ⌜ r ≡ remainder a l i j ⌝ }
+{
+    let mut x = a[i][j];
+    let mut k: usize = 0;
+    while k < j {
+        x = x - l[k][i] * l[k][j];
+        k += 1;
+    }
+    x
+}
+
+// Entry i of column j, whose pivot has the root d.
+fn column_entry6(a: [[f64; 6]; 6], l: [[f64; 6]; 6], j: usize, d: f64, i: usize) -> f64
+    requires { ⌜ (i < 6) × (j < 6) ⌝ }
+    ensures { λ r. ⌜ r ≡ columnEntry a l j d i ⌝ }
+{
+    if i < j {
+        0.0
+    } else if i == j {
+        d
+    } else {
+        remainder6(a, l, i, j) / d
+    }
+}
+
+// Column j, whose pivot has the root d.
+fn column6(a: [[f64; 6]; 6], l: [[f64; 6]; 6], j: usize, d: f64) -> [f64; 6]
+    requires { ⌜ j < 6 ⌝ }
+    ensures { λ r. ⌜ r ≡ columnBy 6 a l j d ⌝ }
+{
+    [
+        column_entry6(a, l, j, d, 0),
+        column_entry6(a, l, j, d, 1),
+        column_entry6(a, l, j, d, 2),
+        column_entry6(a, l, j, d, 3),
+        column_entry6(a, l, j, d, 4),
+        column_entry6(a, l, j, d, 5),
+    ]
+}
+
+// Whether a has a factor, found column by column.
+fn check_factor6(a: [[f64; 6]; 6]) -> Validity
+    ensures { λ r. ⌜ replyOfValidity r ≡ factorable 6 a ⌝ }
+{
+    let mut l = [[0.0; 6]; 6];
+    let mut j: usize = 0;
+    while j < 6 {
+        match pivot_root(remainder6(a, l, j, j)) {
+            Pivot::Root(d) => {
+                l[j] = column6(a, l, j, d);
+                j += 1;
+            }
+            Pivot::Fails => {
+                return Validity::Refused(Refusal::NotPositiveDefinite);
+            }
+        }
+    }
+    Validity::Valid
+}
+
+pub fn validate_covariance6(a: [[f64; 6]; 6]) -> Validity
+    ensures { λ r. ⌜ replyOfValidity r ≡ validated 6 a ⌝ }
+{
+    if is_finite_6x6(a) {
+        if is_symmetric6(a) {
+            check_factor6(a)
         } else {
             Validity::Refused(Refusal::NotSymmetric)
         }
