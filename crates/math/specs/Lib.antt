@@ -2,3 +2,4 @@ pub mod Refusing
 pub mod Checks
 pub mod Cholesky
 pub mod Linalg
+pub mod Models
