@@ -48,6 +48,22 @@ pub fn rows_6x6(v: [f64; 36]) -> [[f64; 6]; 6]
 }
 
 // The rows of a, one after the other.
+pub fn flat_3x3(a: [[f64; 3]; 3]) -> [f64; 9]
+    ensures { λ r. ⌜ r ≡ flatOf 3 3 a ⌝ }
+{
+    [
+        a[0][0],
+        a[0][1],
+        a[0][2],
+        a[1][0],
+        a[1][1],
+        a[1][2],
+        a[2][0],
+        a[2][1],
+        a[2][2],
+    ]
+}
+
 pub fn flat_6x6(a: [[f64; 6]; 6]) -> [f64; 36]
     ensures { λ r. ⌜ r ≡ flatOf 6 6 a ⌝ }
 {
