@@ -13,7 +13,7 @@ use Rattle.filter.specs.declared.Expected.{Expected}
 use Rattle.filter.specs.declared.Outcome.{Outcome}
 use Rattle.filter.specs.declared.Outcome.the-variants.{Done, Refused}
 use Rattle.filter.specs.declared.Step.{Step}
-use Rattle.filter.specs.Kalman.{Estimate, estimate, predictReply, checked, updateReply, distanceOf}
+use Rattle.filter.specs.Kalman.{Estimate, estimate, predictReply, measured, checked, updateReply, distanceOf}
 
 -- ---- what a filter holds
 
@@ -46,6 +46,13 @@ updatedByPosition z r f = stored (updateReply 3 6 z (selection 3 6 0) (rowsOf 3 
 -- with a velocity v along x and y, measured with the deviation std
 unfoldable pub updatedByVelocity : Vector → Float → KalmanFilter → Reply KalmanFilter
 updatedByVelocity v std f = stored (updateReply 2 6 v (selection 2 6 3) (isotropic 2 (mul binary64 std std)) (estimateOf f))
+
+-- the same for a measurement that has passed its checks
+unfoldable pub updatedByCheckedPosition : Vector → Vector → KalmanFilter → Reply KalmanFilter
+updatedByCheckedPosition z r f = stored (measured 3 6 z (selection 3 6 0) (rowsOf 3 3 r) (estimateOf f))
+
+unfoldable pub updatedByCheckedVelocity : Vector → Float → KalmanFilter → Reply KalmanFilter
+updatedByCheckedVelocity v std f = stored (measured 2 6 v (selection 2 6 3) (isotropic 2 (mul binary64 std std)) (estimateOf f))
 
 -- the squared distance of a position
 unfoldable pub squaredMahalanobis : Vector → Vector → KalmanFilter → Reply Float

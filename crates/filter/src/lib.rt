@@ -5,7 +5,7 @@ ghost use Rattle.math.specs.Models.{selection};
 ghost use Rattle.math.specs.Refusing.{numberOf};
 ghost use Rattle.number.specs.Reply.{refused};
 ghost use Rattle.filter.specs.Kalman.{estimate, finished, moved, corrected, gained, measured, updateReply};
-ghost use Rattle.filter.specs.Filter.{filterWith, estimateOf, stored, created, predicted, updatedByPosition, updatedByVelocity, squaredMahalanobis, expectedOf, distanceFrom, Answer};
+ghost use Rattle.filter.specs.Filter.{filterWith, estimateOf, stored, created, predicted, updatedByPosition, updatedByVelocity, updatedByCheckedPosition, updatedByCheckedVelocity, squaredMahalanobis, expectedOf, distanceFrom, Answer};
 
 // A state of position and velocity, and its covariance, row after row.
 pub struct KalmanFilter {
@@ -70,8 +70,8 @@ fn move_by(f: KalmanFilter, phi: [[f64; 6]; 6], q: [[f64; 6]; 6]) -> Step
 {
     let x = f.state;
     let flat = f.covariance;
-    let state = matrix::product::mul_6x6_vector(phi, x);
-    let spread = matrix::product::congruence_6x6(phi, matrix::flat::rows_6x6(flat));
+    let state = product::mul_6x6_vector(phi, x);
+    let spread = product::congruence_6x6(phi, matrix::flat::rows_6x6(flat));
     let covariance = matrix::sum::symmetrized_sum6(spread, q);
     finish(f, state, covariance)
 }
@@ -121,11 +121,11 @@ fn correct3(
 {
     let x = f.state;
     let h = math::models::measurement_h3();
-    let u = matrix::sum::sub3(z, matrix::product::mul_3x6_vector(h, x));
-    let state = matrix::sum::add6(x, matrix::product::mul_6x3_vector(k, u));
-    let a = matrix::sum::complement6(matrix::product::mul_6x3_3x6(k, h));
-    let left = matrix::product::congruence_6x6(a, p);
-    let covariance = matrix::sum::symmetrized_sum6(left, matrix::product::congruence_6x3(k, noise));
+    let u = matrix::sum::sub3(z, product::mul_3x6_vector(h, x));
+    let state = matrix::sum::add6(x, product::mul_6x3_vector(k, u));
+    let a = matrix::sum::complement6(product::mul_6x3_3x6(k, h));
+    let left = product::congruence_6x6(a, p);
+    let covariance = matrix::sum::symmetrized_sum6(left, product::congruence_6x3(k, noise));
     finish(f, state, covariance)
 }
 
@@ -153,10 +153,10 @@ fn measure3(f: KalmanFilter, z: [f64; 3], noise: [[f64; 3]; 3]) -> Step
     let flat = f.covariance;
     let p = matrix::flat::rows_6x6(flat);
     let h = math::models::measurement_h3();
-    let s = matrix::sum::symmetrized_sum3(matrix::product::congruence_3x6(h, p), noise);
+    let s = matrix::sum::symmetrized_sum3(product::congruence_3x6(h, p), noise);
     match math::linalg::cholesky3(s) {
         math::linalg::Factor3::Lower(l) => {
-            let k = math::linalg::gain3(l, matrix::product::mul_6x6_transposed_3x6(p, h));
+            let k = math::linalg::gain3(l, product::mul_6x6_transposed_3x6(p, h));
             correct_finite3(f, z, noise, p, k)
         }
         math::linalg::Factor3::Fails => refuse(f, math::linalg::Refusal::NotPositiveDefinite),
@@ -196,11 +196,11 @@ fn correct2(
 {
     let x = f.state;
     let h = math::models::velocity_h2();
-    let u = matrix::sum::sub2(z, matrix::product::mul_2x6_vector(h, x));
-    let state = matrix::sum::add6(x, matrix::product::mul_6x2_vector(k, u));
-    let a = matrix::sum::complement6(matrix::product::mul_6x2_2x6(k, h));
-    let left = matrix::product::congruence_6x6(a, p);
-    let covariance = matrix::sum::symmetrized_sum6(left, matrix::product::congruence_6x2(k, noise));
+    let u = matrix::sum::sub2(z, product::mul_2x6_vector(h, x));
+    let state = matrix::sum::add6(x, product::mul_6x2_vector(k, u));
+    let a = matrix::sum::complement6(product::mul_6x2_2x6(k, h));
+    let left = product::congruence_6x6(a, p);
+    let covariance = matrix::sum::symmetrized_sum6(left, product::congruence_6x2(k, noise));
     finish(f, state, covariance)
 }
 
@@ -228,10 +228,10 @@ fn measure2(f: KalmanFilter, z: [f64; 2], noise: [[f64; 2]; 2]) -> Step
     let flat = f.covariance;
     let p = matrix::flat::rows_6x6(flat);
     let h = math::models::velocity_h2();
-    let s = matrix::sum::symmetrized_sum2(matrix::product::congruence_2x6(h, p), noise);
+    let s = matrix::sum::symmetrized_sum2(product::congruence_2x6(h, p), noise);
     match math::linalg::cholesky2(s) {
         math::linalg::Factor2::Lower(l) => {
-            let k = math::linalg::gain2(l, matrix::product::mul_6x6_transposed_2x6(p, h));
+            let k = math::linalg::gain2(l, product::mul_6x6_transposed_2x6(p, h));
             correct_finite2(f, z, noise, p, k)
         }
         math::linalg::Factor2::Fails => refuse(f, math::linalg::Refusal::NotPositiveDefinite),
@@ -259,6 +259,20 @@ pub fn update_velocity(f: KalmanFilter, v: [f64; 2], std: f64) -> Step
     update2(f, v, math::models::velocity_r2(std))
 }
 
+// The same for a position that is finite and a covariance that may be one: what the checks of a batch have found already.
+pub fn update_checked_position(f: KalmanFilter, z: [f64; 3], noise: [f64; 9]) -> Step
+    ensures { λ r. ⌜ Answer f r (updatedByCheckedPosition z noise f) ⌝ }
+{
+    measure3(f, z, matrix::flat::rows_3x3(noise))
+}
+
+// The same for a velocity that is finite and a deviation whose square may be a variance.
+pub fn update_checked_velocity(f: KalmanFilter, v: [f64; 2], std: f64) -> Step
+    ensures { λ r. ⌜ Answer f r (updatedByCheckedVelocity v std f) ⌝ }
+{
+    measure2(f, v, math::models::velocity_r2(std))
+}
+
 // Where f expects a position: once for a filter, whatever is measured.
 pub fn expected_position(f: KalmanFilter) -> Expected
     ensures { λ r. ⌜ r ≡ expectedOf f ⌝ }
@@ -266,8 +280,8 @@ pub fn expected_position(f: KalmanFilter) -> Expected
     let x = f.state;
     let flat = f.covariance;
     let h = math::models::measurement_h3();
-    let position = matrix::product::mul_3x6_vector(h, x);
-    let covariance = matrix::flat::flat_3x3(matrix::product::congruence_3x6(
+    let position = product::mul_3x6_vector(h, x);
+    let covariance = matrix::flat::flat_3x3(product::congruence_3x6(
         h,
         matrix::flat::rows_6x6(flat),
     ));

@@ -469,7 +469,7 @@ fn distance_by3(l: Lower3, u: [f64; 3]) -> Distance
 {
     let x = solve3(l, u);
     if is_finite3(x) {
-        distance_of(matrix::product::dot3(u, x))
+        distance_of(product::dot3(u, x))
     } else {
         Distance::Refused(Refusal::NonFiniteResult)
     }
