@@ -1,0 +1,36 @@
+-- The squared distance in two parts, one of the filter alone and one for each measurement, is the whole; and what is left out for a measurement that has passed its checks changes nothing. Assumes nothing.
+use mathlib.Core.Path.{_≡_, refl, ap, _∙_}
+use mathlib.Core.Bool.{true}
+use lib.Ieee.{Float, binary64, mul}
+use Rattle.number.specs.Reply.{Reply, given}
+use Rattle.matrix.specs.Matrix.{Vector, Matrix, timesVector, rowTimes, product, congruence, minusVector, plus, symmetrized}
+use Rattle.matrix.specs.Flat.{rowOf, rowsOf, flatOf}
+use Rattle.math.specs.Checks.{finiteVector}
+use Rattle.math.specs.Linalg.{validated, squaredDistance}
+use Rattle.math.specs.Models.{selection, isotropic}
+use Rattle.filter.specs.declared.KalmanFilter.{KalmanFilter}
+use Rattle.filter.specs.Kalman.{innovation, spread, measured, updateReply, distanceOf}
+use Rattle.filter.specs.Filter.{estimateOf, stored, updatedByPosition, updatedByVelocity, updatedByCheckedPosition, updatedByCheckedVelocity, squaredMahalanobis, expectedOf, distanceFrom}
+use Rattle.filter.proofs.Steps.{check-passed}
+
+-- 9 numbers hold a matrix of three rows whole
+rows-flat : (h p : Matrix) → rowsOf 3 3 (flatOf 3 3 (congruence 3 6 h p)) ≡ congruence 3 6 h p
+unfolding rowOf rowsOf flatOf congruence product rowTimes
+rows-flat h p = refl
+
+pub parts-are-whole : (f : KalmanFilter) (z r : Vector) → distanceFrom (expectedOf f) z r ≡ distanceOf 3 6 z (selection 3 6 0) (rowsOf 3 3 r) (estimateOf f)
+unfolding distanceFrom expectedOf distanceOf innovation spread
+parts-are-whole f z r = ap (λ (s : Matrix). squaredDistance 3 (minusVector 3 z (timesVector 3 6 (selection 3 6 0) (f .state))) (symmetrized 3 (plus 3 3 s (rowsOf 3 3 r)))) (rows-flat (selection 3 6 0) (rowsOf 6 6 (f .covariance)))
+
+-- for a measurement that passes its checks, the part for each measurement gives what `squared_mahalanobis` gives
+pub checked-distance : (f : KalmanFilter) (z r : Vector) → finiteVector 3 z ≡ true → given tt ≡ validated 3 (rowsOf 3 3 r) → distanceFrom (expectedOf f) z r ≡ squaredMahalanobis z r f
+unfolding squaredMahalanobis
+checked-distance f z r t v = parts-are-whole f z r ∙ check-passed 3 z (rowsOf 3 3 r) (distanceOf 3 6 z (selection 3 6 0) (rowsOf 3 3 r) (estimateOf f)) t v
+
+pub checked-position : (f : KalmanFilter) (z r : Vector) → finiteVector 3 z ≡ true → given tt ≡ validated 3 (rowsOf 3 3 r) → updatedByCheckedPosition z r f ≡ updatedByPosition z r f
+unfolding updatedByCheckedPosition updatedByPosition updateReply
+checked-position f z r t v = ap stored (check-passed 3 z (rowsOf 3 3 r) (measured 3 6 z (selection 3 6 0) (rowsOf 3 3 r) (estimateOf f)) t v)
+
+pub checked-velocity : (f : KalmanFilter) (v : Vector) (std : Float) → finiteVector 2 v ≡ true → given tt ≡ validated 2 (isotropic 2 (mul binary64 std std)) → updatedByCheckedVelocity v std f ≡ updatedByVelocity v std f
+unfolding updatedByCheckedVelocity updatedByVelocity updateReply
+checked-velocity f v std t g = ap stored (check-passed 2 v (isotropic 2 (mul binary64 std std)) (measured 2 6 v (selection 2 6 3) (isotropic 2 (mul binary64 std std)) (estimateOf f)) t g)

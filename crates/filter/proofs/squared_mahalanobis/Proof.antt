@@ -1,0 +1,57 @@
+use mathlib.Core.Path.{sym, ap, _∙_}
+use borrow.Author.Needs.{needs}
+use Rattle.matrix.specs.Flat.{rowsOf}
+use Rattle.math.specs.Models.{selection}
+use Rattle.math.specs.Linalg.{validated, replyOfValidity}
+use Rattle.filter.specs.declared.Expected.{Expected}
+use Rattle.filter.specs.Kalman.{distanceOf}
+use Rattle.filter.specs.Filter.{estimateOf, distanceFrom, squaredMahalanobis}
+use Rattle.filter.proofs.Steps.{check-refused, check-infinite}
+use Rattle.filter.proofs.Split.{checked-distance}
+use Rattle.filter.proofs.squared_mahalanobis.Statement.{statement}
+use Rattle.filter.proofs.squared_mahalanobis.Tie as tie
+
+returns : tie.Need-returns
+returns c =
+    let expected = c .before in
+    let told = expected .before in
+    let valid = told .before .before in
+    let rows = valid .before in
+    let test = rows .before .before in
+    let s = test .before .args in
+    c .distance-from .ensures ∙ ap (λ (m : Expected). distanceFrom m (s .z) (s .noise)) (expected .expected-position .ensures)
+    ∙ checked-distance (s .f) (s .z) (s .noise) (sym (test .is-finite3 .ensures) ∙ rows .before .if1 .taken)
+    (ap replyOfValidity (sym (told .enum-told .given .1)) ∙ valid .validate-covariance3 .ensures ∙ ap (validated 3) (rows .rows-3x3 .ensures))
+
+returns-2 : tie.Need-returns-2
+unfolding squaredMahalanobis
+returns-2 c =
+    let found = c .before in
+    let valid = found .before .before in
+    let rows = valid .before in
+    let test = rows .before .before in
+    let s = test .before .args in
+    check-refused 3 (s .z) (rowsOf 3 3 (s .noise)) (distanceOf 3 6 (s .z) (selection 3 6 0) (rowsOf 3 3 (s .noise)) (estimateOf (s .f))) (sym (test .is-finite3 .ensures) ∙ rows .before .if1 .taken)
+    (ap replyOfValidity (sym (found .why .given .1)) ∙ valid .validate-covariance3 .ensures ∙ ap (validated 3) (rows .rows-3x3 .ensures))
+
+returns-3 : tie.Need-returns-3
+unfolding squaredMahalanobis
+returns-3 c =
+    let test = c .before in
+    let s = test .before .args in
+    check-infinite 3 (s .z) (rowsOf 3 3 (s .noise)) (distanceOf 3 6 (s .z) (selection 3 6 0) (rowsOf 3 3 (s .noise)) (estimateOf (s .f))) (sym (test .is-finite3 .ensures) ∙ c .if1 .left)
+
+pub squared-mahalanobis-spec : {M : Type 1} → statement M
+squared-mahalanobis-spec =
+    tie.close
+    (tie.spec
+    (λ c κs. search needs)
+    (λ c κs. search needs)
+    (λ c κs. search needs)
+    (λ c. search needs)
+    (λ c κs. search needs)
+    (λ c κs. search needs)
+    (λ c. search needs)
+    returns
+    returns-2
+    returns-3)

@@ -1,0 +1,4 @@
+pub mod Factors
+pub mod Columns
+pub mod Solving
+pub mod Answers

@@ -1,0 +1,20 @@
+use Rattle.math.specs.Checks.{finiteVector}
+use borrow.Author.Needs.{needs}
+use Rattle.math.proofs.linalg.is_finite3.Statement.{statement}
+use Rattle.math.proofs.linalg.is_finite3.Tie as tie
+
+returns : tie.Need-returns
+unfolding finiteVector
+returns c = cc
+
+pub is-finite3-spec : {M : Type 1} → statement M
+is-finite3-spec =
+    tie.close
+    (tie.spec
+    (λ c. search needs)
+    (λ c κs. search needs)
+    (λ c. search needs)
+    (λ c κs. search needs)
+    (λ c. search needs)
+    (λ c κs. search needs)
+    returns)

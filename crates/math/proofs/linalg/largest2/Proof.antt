@@ -1,0 +1,18 @@
+use Rattle.math.specs.Checks.{largest}
+use borrow.Author.Needs.{needs}
+use Rattle.math.proofs.linalg.largest2.Statement.{statement}
+use Rattle.math.proofs.linalg.largest2.Tie as tie
+
+returns : tie.Need-returns
+unfolding largest
+returns c = cc
+
+pub largest2-spec : {M : Type 1} → statement M
+largest2-spec =
+    tie.close
+    (tie.spec
+    (λ c. search needs)
+    (λ c κs. search needs)
+    (λ c. search needs)
+    (λ c κs. search needs)
+    returns)

@@ -1,0 +1,14 @@
+use Rattle.math.specs.Checks.{skew}
+use borrow.Author.Needs.{needs}
+use Rattle.math.proofs.linalg.skew2.Statement.{statement}
+use Rattle.math.proofs.linalg.skew2.Tie as tie
+
+returns : tie.Need-returns
+unfolding skew
+returns c = cc
+
+pub skew2-spec : {M : Type 1} → statement M
+skew2-spec = tie.close (tie.spec
+    (λ c κs. search needs)
+    (λ c κs. search needs)
+    returns)

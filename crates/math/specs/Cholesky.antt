@@ -1,0 +1,88 @@
+-- The Cholesky factor of a symmetric matrix and what is solved with it, for any size, each operation rounded once.
+-- 01, Matrix: "Cholesky reads the lower triangle, column by column, subtracting earlier columns in order. A pivot not greater than 0 (NaN included) fails.
+-- Entries below are divided by the pivot's root. Solving forward subtracts term by term; backward sums first and subtracts once."
+use Prim.Native.Nat.{ℕ, zero, suc, _+_, _-_}
+use mathlib.Core.Bool.{Bool, true, false, cond}
+use mathlib.Core.List.{List, [], _∷_, _++_}
+use lib.Dec.{ltb, eqb}
+use lib.Ieee.{Float, binary64, sub, mul, div, lt}
+use Rattle.number.specs.Reply.{Reply, refused, given}
+use Rattle.number.specs.Root.{rootReply}
+use Rattle.matrix.specs.Matrix.{Vector, Matrix, item, row, entry, tabulate, nought, sumOf, transposed}
+use Rattle.math.specs.Refusing.{andThen}
+
+-- x less f 0, less f 1, .. of n terms, one after the other
+abbrev pub lessEach : ℕ → (ℕ → Float) → Float → Float
+lessEach zero f x = x
+lessEach (suc n) f x = sub binary64 (lessEach n f x) (f n)
+
+-- x less the sum of n terms; x itself where there are none
+abbrev pub lessSum : ℕ → (ℕ → Float) → Float → Float
+lessSum zero f x = x
+lessSum (suc n) f x = sub binary64 x (sumOf (suc n) f)
+
+-- ---- the factor, as the list of its columns
+
+-- entry i, j of a less what the j columns before it take away
+abbrev pub remainder : Matrix → Matrix → ℕ → ℕ → Float
+remainder a columns i j = lessEach j (λ k. mul binary64 (entry columns k i) (entry columns k j)) (entry a i j)
+
+-- column j of n items: +0 above the pivot's root, quotients below it
+abbrev pub columnEntry : Matrix → Matrix → ℕ → Float → ℕ → Float
+columnEntry a columns j root i = cond (ltb i j) nought (cond (eqb i j) root (div binary64 (remainder a columns i j) root))
+
+unfoldable pub columnBy : ℕ → Matrix → Matrix → ℕ → Float → Vector
+columnBy n a columns j root = tabulate n (λ i. columnEntry a columns j root i)
+
+-- the root of a pivot that is greater than 0
+abbrev pub orFails : Bool → Reply Float → Reply Float
+orFails true (given d) = given d
+orFails true (refused n) = refused 7
+orFails false r = refused 7
+
+unfoldable pub pivotRoot : Float → Reply Float
+pivotRoot p = orFails (lt nought p) (rootReply p)
+
+-- the `left` columns from column j on, behind those before it
+unfoldable pub columnsFrom : ℕ → ℕ → Matrix → ℕ → Matrix → Reply Matrix
+columnsFrom zero n a j columns = given columns
+columnsFrom (suc left) n a j columns = andThen (pivotRoot (remainder a columns j j)) (λ d. columnsFrom left n a (j + 1) (columns ++ (columnBy n a columns j d ∷ [])))
+
+-- the factor of an n by n matrix
+unfoldable pub cholesky : ℕ → Matrix → Reply Matrix
+cholesky n a = columnsFrom n n a 0 []
+
+-- ---- solving with the factor's columns l
+
+-- the first i items of y with L y = b
+abbrev pub forwardTo : ℕ → Matrix → Vector → Vector
+forwardTo zero l b = []
+forwardTo (suc i) l b =
+    let y = forwardTo i l b in
+    y ++ (div binary64 (lessEach i (λ k. mul binary64 (entry l k i) (item y k)) (item b i)) (entry l i i) ∷ [])
+
+unfoldable pub forward : ℕ → Matrix → Vector → Vector
+forward n l b = forwardTo n l b
+
+-- the last k of the n items of x with Lᵀ x = y
+abbrev pub backwardFrom : ℕ → ℕ → Matrix → Vector → Vector
+backwardFrom zero n l y = []
+backwardFrom (suc k) n l y =
+    let x = backwardFrom k n l y in
+    let i = n - suc k in
+    div binary64 (lessSum k (λ t. mul binary64 (entry l i (i + 1 + t)) (item x t)) (item y i)) (entry l i i) ∷ x
+
+unfoldable pub backward : ℕ → Matrix → Vector → Vector
+backward n l y = backwardFrom n n l y
+
+-- x with L Lᵀ x = b
+unfoldable pub solved : ℕ → Matrix → Vector → Vector
+solved n l b = backward n l (forward n l b)
+
+-- X with L Lᵀ X = b, for b of n by p: column j of X from column j of b
+unfoldable pub solvedColumns : ℕ → ℕ → Matrix → Matrix → Matrix
+solvedColumns n p l b = tabulate n (λ i. tabulate p (λ j. item (solved n l (row (transposed n p b) j)) i))
+
+-- 01, Filter: "Update takes K from (symmetrized S) X = (P Hᵀ)ᵀ". K = Xᵀ, for P Hᵀ of p by n.
+unfoldable pub gainBy : ℕ → ℕ → Matrix → Matrix → Matrix
+gainBy n p l pht = transposed n p (solvedColumns n p l (transposed p n pht))

@@ -1,0 +1,5 @@
+pub mod Refusing
+pub mod Checks
+pub mod Cholesky
+pub mod Linalg
+pub mod Models
