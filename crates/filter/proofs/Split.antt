@@ -2,15 +2,15 @@
 use mathlib.Core.Path.{_≡_, refl, ap, _∙_}
 use mathlib.Core.Bool.{true}
 use lib.Ieee.{Float, binary64, mul}
-use Rattle.number.specs.Reply.{Reply, given}
-use Rattle.matrix.specs.Matrix.{Vector, Matrix, timesVector, rowTimes, product, congruence, minusVector, plus, symmetrized}
+use Rattle.number.specs.Reply.{given}
+use Rattle.matrix.specs.Matrix.{Vector, Matrix, rowTimes, product, congruence, plus, symmetrized}
 use Rattle.matrix.specs.Flat.{rowOf, rowsOf, flatOf}
 use Rattle.math.specs.Checks.{finiteVector}
 use Rattle.math.specs.Linalg.{validated, squaredDistance}
 use Rattle.math.specs.Models.{selection, isotropic}
 use Rattle.filter.specs.declared.KalmanFilter.{KalmanFilter}
-use Rattle.filter.specs.Kalman.{innovation, spread, measured, updateReply, distanceOf}
-use Rattle.filter.specs.Filter.{estimateOf, stored, updatedByPosition, updatedByVelocity, updatedByCheckedPosition, updatedByCheckedVelocity, squaredMahalanobis, expectedOf, distanceFrom}
+use Rattle.filter.specs.Kalman.{innovation, spread, measuredBy, measured, updateReply, distanceOf}
+use Rattle.filter.specs.Filter.{estimateOf, stored, updatedByPosition, updatedByVelocity, updatedByCheckedVelocity, squaredMahalanobis, expectedOf, innovationFrom, spreadFrom, distanceFrom, updatedFrom}
 use Rattle.filter.proofs.Steps.{check-passed}
 
 -- 9 numbers hold a matrix of three rows whole
@@ -18,18 +18,32 @@ rows-flat : (h p : Matrix) → rowsOf 3 3 (flatOf 3 3 (congruence 3 6 h p)) ≡ 
 unfolding rowOf rowsOf flatOf congruence product rowTimes
 rows-flat h p = refl
 
-pub parts-are-whole : (f : KalmanFilter) (z r : Vector) → distanceFrom (expectedOf f) z r ≡ distanceOf 3 6 z (selection 3 6 0) (rowsOf 3 3 r) (estimateOf f)
-unfolding distanceFrom expectedOf distanceOf innovation spread
-parts-are-whole f z r = ap (λ (s : Matrix). squaredDistance 3 (minusVector 3 z (timesVector 3 6 (selection 3 6 0) (f .state))) (symmetrized 3 (plus 3 3 s (rowsOf 3 3 r)))) (rows-flat (selection 3 6 0) (rowsOf 6 6 (f .covariance)))
+same-spread : (f : KalmanFilter) (r : Vector) → spreadFrom (expectedOf f) r ≡ spread 3 6 (selection 3 6 0) (rowsOf 3 3 r) (rowsOf 6 6 (f .covariance))
+unfolding expectedOf spread
+same-spread f r = ap (λ (s : Matrix). symmetrized 3 (plus 3 3 s (rowsOf 3 3 r))) (rows-flat (selection 3 6 0) (rowsOf 6 6 (f .covariance)))
 
--- for a measurement that passes its checks, the part for each measurement gives what `squared_mahalanobis` gives
-pub checked-distance : (f : KalmanFilter) (z r : Vector) → finiteVector 3 z ≡ true → given tt ≡ validated 3 (rowsOf 3 3 r) → distanceFrom (expectedOf f) z r ≡ squaredMahalanobis z r f
-unfolding squaredMahalanobis
-checked-distance f z r t v = parts-are-whole f z r ∙ check-passed 3 z (rowsOf 3 3 r) (distanceOf 3 6 z (selection 3 6 0) (rowsOf 3 3 r) (estimateOf f)) t v
+same-innovation : (f : KalmanFilter) (z : Vector) → innovationFrom (expectedOf f) z ≡ innovation 3 6 z (selection 3 6 0) (f .state)
+unfolding expectedOf innovation
+same-innovation f z = refl
 
-pub checked-position : (f : KalmanFilter) (z r : Vector) → finiteVector 3 z ≡ true → given tt ≡ validated 3 (rowsOf 3 3 r) → updatedByCheckedPosition z r f ≡ updatedByPosition z r f
-unfolding updatedByCheckedPosition updatedByPosition updateReply
-checked-position f z r t v = ap stored (check-passed 3 z (rowsOf 3 3 r) (measured 3 6 z (selection 3 6 0) (rowsOf 3 3 r) (estimateOf f)) t v)
+pub distance-parts : (f : KalmanFilter) (z r : Vector) → distanceFrom (expectedOf f) z r ≡ distanceOf 3 6 z (selection 3 6 0) (rowsOf 3 3 r) (estimateOf f)
+unfolding distanceFrom distanceOf
+distance-parts f z r = λ i. squaredDistance 3 (same-innovation f z i) (same-spread f r i)
+
+pub update-parts : (f : KalmanFilter) (z r : Vector) → updatedFrom (expectedOf f) z r f ≡ stored (measured 3 6 z (selection 3 6 0) (rowsOf 3 3 r) (estimateOf f))
+unfolding updatedFrom measured
+update-parts f z r = λ i. stored (measuredBy 3 6 (same-innovation f z i) (same-spread f r i) (selection 3 6 0) (rowsOf 3 3 r) (estimateOf f))
+
+-- ---- for a measurement that passes its checks, the parts give what the whole calls give
+
+module _ (f : KalmanFilter) (z r : Vector) (t : finiteVector 3 z ≡ true) (v : given tt ≡ validated 3 (rowsOf 3 3 r)) where
+  pub checked-distance : distanceFrom (expectedOf f) z r ≡ squaredMahalanobis z r f
+  unfolding squaredMahalanobis
+  checked-distance = distance-parts f z r ∙ check-passed 3 z (rowsOf 3 3 r) (distanceOf 3 6 z (selection 3 6 0) (rowsOf 3 3 r) (estimateOf f)) t v
+
+  pub checked-position : updatedFrom (expectedOf f) z r f ≡ updatedByPosition z r f
+  unfolding updatedByPosition updateReply
+  checked-position = update-parts f z r ∙ ap stored (check-passed 3 z (rowsOf 3 3 r) (measured 3 6 z (selection 3 6 0) (rowsOf 3 3 r) (estimateOf f)) t v)
 
 pub checked-velocity : (f : KalmanFilter) (v : Vector) (std : Float) → finiteVector 2 v ≡ true → given tt ≡ validated 2 (isotropic 2 (mul binary64 std std)) → updatedByCheckedVelocity v std f ≡ updatedByVelocity v std f
 unfolding updatedByCheckedVelocity updatedByVelocity updateReply

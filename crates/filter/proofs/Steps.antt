@@ -10,7 +10,7 @@ use Rattle.math.specs.Linalg.{validated}
 use Rattle.filter.specs.declared.KalmanFilter.{KalmanFilter}
 use Rattle.filter.specs.declared.Outcome.the-variants.{Done}
 use Rattle.filter.specs.declared.Step.{Step}
-use Rattle.filter.specs.Kalman.{Estimate, finished, moved, predictReply, spread, corrected, gained, measured, checked}
+use Rattle.filter.specs.Kalman.{Estimate, finished, moved, predictReply, corrected, gained, measuredBy, checked}
 use Rattle.filter.specs.Filter.{filterOf, stored, leftIn, Answer}
 
 -- ---- answers
@@ -68,19 +68,19 @@ module _ {A : Type 0} (k : ℕ) (z : Vector) (r : Matrix) (reply : Reply A) wher
 
 -- ---- measurement
 
-module _ (k n : ℕ) (z : Vector) (h r : Matrix) (e : Estimate) where
-  pub finite-gain : (gain : Matrix) → finiteMatrix n k gain ≡ true → finished n (corrected k n z h r e gain) ≡ gained k n z h r e gain
+module _ (k n : ℕ) (u : Vector) (h r : Matrix) (e : Estimate) where
+  pub finite-gain : (gain : Matrix) → finiteMatrix n k gain ≡ true → finished n (corrected k n u h r e gain) ≡ gained k n u h r e gain
   unfolding gained
   finite-gain gain t = rw t
 
-  pub infinite-gain : (gain : Matrix) → finiteMatrix n k gain ≡ false → refused 9 ≡ gained k n z h r e gain
+  pub infinite-gain : (gain : Matrix) → finiteMatrix n k gain ≡ false → refused 9 ≡ gained k n u h r e gain
   unfolding gained
   infinite-gain gain t = rw t
 
-  pub has-gain : (l : Matrix) → given l ≡ cholesky k (spread k n h r (e .covariance)) → gained k n z h r e (gainBy k n l (product n n k (e .covariance) (transposed k n h))) ≡ measured k n z h r e
-  unfolding measured
-  has-gain l t = rw (← t)
+  pub has-gain : (s l : Matrix) → given l ≡ cholesky k s → gained k n u h r e (gainBy k n l (product n n k (e .covariance) (transposed k n h))) ≡ measuredBy k n u s h r e
+  unfolding measuredBy
+  has-gain s l t = rw (← t)
 
-  pub no-gain : {m : ℕ} → refused m ≡ cholesky k (spread k n h r (e .covariance)) → refused m ≡ measured k n z h r e
-  unfolding measured
-  no-gain t = rw (← t)
+  pub no-gain : (s : Matrix) {m : ℕ} → refused m ≡ cholesky k s → refused m ≡ measuredBy k n u s h r e
+  unfolding measuredBy
+  no-gain s t = rw (← t)

@@ -13,7 +13,7 @@ use Rattle.filter.specs.declared.Expected.{Expected}
 use Rattle.filter.specs.declared.Outcome.{Outcome}
 use Rattle.filter.specs.declared.Outcome.the-variants.{Done, Refused}
 use Rattle.filter.specs.declared.Step.{Step}
-use Rattle.filter.specs.Kalman.{Estimate, estimate, predictReply, measured, checked, updateReply, distanceOf}
+use Rattle.filter.specs.Kalman.{Estimate, estimate, predictReply, measuredBy, measured, checked, updateReply, distanceOf}
 
 -- ---- what a filter holds
 
@@ -47,10 +47,7 @@ updatedByPosition z r f = stored (updateReply 3 6 z (selection 3 6 0) (rowsOf 3 
 unfoldable pub updatedByVelocity : Vector → Float → KalmanFilter → Reply KalmanFilter
 updatedByVelocity v std f = stored (updateReply 2 6 v (selection 2 6 3) (isotropic 2 (mul binary64 std std)) (estimateOf f))
 
--- the same for a measurement that has passed its checks
-unfoldable pub updatedByCheckedPosition : Vector → Vector → KalmanFilter → Reply KalmanFilter
-updatedByCheckedPosition z r f = stored (measured 3 6 z (selection 3 6 0) (rowsOf 3 3 r) (estimateOf f))
-
+-- the same for a velocity that has passed its checks
 unfoldable pub updatedByCheckedVelocity : Vector → Float → KalmanFilter → Reply KalmanFilter
 updatedByCheckedVelocity v std f = stored (measured 2 6 v (selection 2 6 3) (isotropic 2 (mul binary64 std std)) (estimateOf f))
 
@@ -58,14 +55,23 @@ updatedByCheckedVelocity v std f = stored (measured 2 6 v (selection 2 6 3) (iso
 unfoldable pub squaredMahalanobis : Vector → Vector → KalmanFilter → Reply Float
 squaredMahalanobis z r f = checked 3 z (rowsOf 3 3 r) (distanceOf 3 6 z (selection 3 6 0) (rowsOf 3 3 r) (estimateOf f))
 
--- ---- the part of a squared distance that a filter gives, and what a measurement adds to it
+-- ---- what a filter gives to every measurement of a position, and what a measurement that has passed its checks adds to it
 
 -- H x, and (H P) Hᵀ as 9 numbers
 unfoldable pub expectedOf : KalmanFilter → Expected
 expectedOf f = record { position = timesVector 3 6 (selection 3 6 0) (f .state); covariance = flatOf 3 3 (congruence 3 6 (selection 3 6 0) (rowsOf 6 6 (f .covariance))) }
 
+abbrev pub innovationFrom : Expected → Vector → Vector
+innovationFrom m z = minusVector 3 z (m .position)
+
+abbrev pub spreadFrom : Expected → Vector → Matrix
+spreadFrom m r = symmetrized 3 (plus 3 3 (rowsOf 3 3 (m .covariance)) (rowsOf 3 3 r))
+
 unfoldable pub distanceFrom : Expected → Vector → Vector → Reply Float
-distanceFrom m z r = squaredDistance 3 (minusVector 3 z (m .position)) (symmetrized 3 (plus 3 3 (rowsOf 3 3 (m .covariance)) (rowsOf 3 3 r)))
+distanceFrom m z r = squaredDistance 3 (innovationFrom m z) (spreadFrom m r)
+
+unfoldable pub updatedFrom : Expected → Vector → Vector → KalmanFilter → Reply KalmanFilter
+updatedFrom m z r f = stored (measuredBy 3 6 (innovationFrom m z) (spreadFrom m r) (selection 3 6 0) (rowsOf 3 3 r) (estimateOf f))
 
 -- ---- the answers
 

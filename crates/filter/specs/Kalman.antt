@@ -41,18 +41,22 @@ innovation k n z h x = minusVector k z (timesVector k n h x)
 unfoldable pub spread : ℕ → ℕ → Matrix → Matrix → Matrix → Matrix
 spread k n h r p = symmetrized k (plus k k (congruence k n h p) r)
 
--- x + K (z − H x), and the Joseph form
+-- x + K u for the innovation u, and the Joseph form
 unfoldable pub corrected : ℕ → ℕ → Vector → Matrix → Matrix → Estimate → Matrix → Estimate
-corrected k n z h r e gain =
+corrected k n u h r e gain =
     estimate
-    (plusVector n (e .state) (timesVector n k gain (innovation k n z h (e .state))))
+    (plusVector n (e .state) (timesVector n k gain u))
     (symmetrized n (plus n n (congruence n n (minus n n (identity n) (product n k n gain h)) (e .covariance)) (congruence n k gain r)))
 
 unfoldable pub gained : ℕ → ℕ → Vector → Matrix → Matrix → Estimate → Matrix → Reply Estimate
-gained k n z h r e gain = refuseUnless (finiteMatrix n k gain) 9 (finished n (corrected k n z h r e gain))
+gained k n u h r e gain = refuseUnless (finiteMatrix n k gain) 9 (finished n (corrected k n u h r e gain))
+
+-- with the innovation u, whose covariance is s
+unfoldable pub measuredBy : ℕ → ℕ → Vector → Matrix → Matrix → Matrix → Estimate → Reply Estimate
+measuredBy k n u s h r e = andThen (cholesky k s) (λ l. gained k n u h r e (gainBy k n l (product n n k (e .covariance) (transposed k n h))))
 
 unfoldable pub measured : ℕ → ℕ → Vector → Matrix → Matrix → Estimate → Reply Estimate
-measured k n z h r e = andThen (cholesky k (spread k n h r (e .covariance))) (λ l. gained k n z h r e (gainBy k n l (product n n k (e .covariance) (transposed k n h))))
+measured k n z h r e = measuredBy k n (innovation k n z h (e .state)) (spread k n h r (e .covariance)) h r e
 
 -- the checks before a reply: 5 of the vector z, then 5, 6, 7 of its covariance r
 unfoldable pub checked : {A : Type 0} → ℕ → Vector → Matrix → Reply A → Reply A

@@ -4,8 +4,8 @@ ghost use Rattle.math.specs.Linalg.{replyOfDistance};
 ghost use Rattle.math.specs.Models.{selection};
 ghost use Rattle.math.specs.Refusing.{numberOf};
 ghost use Rattle.number.specs.Reply.{refused};
-ghost use Rattle.filter.specs.Kalman.{estimate, finished, moved, corrected, gained, measured, updateReply};
-ghost use Rattle.filter.specs.Filter.{filterWith, estimateOf, stored, created, predicted, updatedByPosition, updatedByVelocity, updatedByCheckedPosition, updatedByCheckedVelocity, squaredMahalanobis, expectedOf, distanceFrom, Answer};
+ghost use Rattle.filter.specs.Kalman.{estimate, finished, moved, corrected, gained, measuredBy, measured};
+ghost use Rattle.filter.specs.Filter.{filterWith, estimateOf, stored, created, predicted, updatedByPosition, updatedByVelocity, updatedByCheckedVelocity, squaredMahalanobis, expectedOf, distanceFrom, updatedFrom, Answer};
 
 // A state of position and velocity, and its covariance, row after row.
 pub struct KalmanFilter {
@@ -109,21 +109,19 @@ pub fn create(x: [f64; 6], p: [f64; 36]) -> Step
     }
 }
 
-// The filter corrected by the gain k: the state by the innovation, the covariance by the Joseph form.
+// The filter corrected by the gain k: the state by the innovation u, the covariance by the Joseph form.
 fn correct3(
     f: KalmanFilter,
-    z: [f64; 3],
+    u: [f64; 3],
     noise: [[f64; 3]; 3],
     p: [[f64; 6]; 6],
     k: [[f64; 3]; 6],
 ) -> Step
-    ensures { λ r. ⌜ Answer f r (stored (finished 6 (corrected 3 6 z (selection 3 6 0) noise (estimate (f .state) p) k))) ⌝ }
+    ensures { λ r. ⌜ Answer f r (stored (finished 6 (corrected 3 6 u (selection 3 6 0) noise (estimate (f .state) p) k))) ⌝ }
 {
     let x = f.state;
-    let h = math::models::measurement_h3();
-    let u = matrix::sum::sub3(z, product::mul_3x6_vector(h, x));
     let state = matrix::sum::add6(x, product::mul_6x3_vector(k, u));
-    let a = matrix::sum::complement6(product::mul_6x3_3x6(k, h));
+    let a = matrix::sum::complement6(product::mul_6x3_3x6(k, math::models::measurement_h3()));
     let left = product::congruence_6x6(a, p);
     let covariance = matrix::sum::symmetrized_sum6(left, product::congruence_6x3(k, noise));
     finish(f, state, covariance)
@@ -132,73 +130,51 @@ fn correct3(
 // The same, where the gain is finite.
 fn correct_finite3(
     f: KalmanFilter,
-    z: [f64; 3],
+    u: [f64; 3],
     noise: [[f64; 3]; 3],
     p: [[f64; 6]; 6],
     k: [[f64; 3]; 6],
 ) -> Step
-    ensures { λ r. ⌜ Answer f r (stored (gained 3 6 z (selection 3 6 0) noise (estimate (f .state) p) k)) ⌝ }
+    ensures { λ r. ⌜ Answer f r (stored (gained 3 6 u (selection 3 6 0) noise (estimate (f .state) p) k)) ⌝ }
 {
     if math::linalg::is_finite_6x3(k) {
-        correct3(f, z, noise, p, k)
+        correct3(f, u, noise, p, k)
     } else {
         refuse(f, math::linalg::Refusal::NonFiniteResult)
     }
 }
 
-// The filter after the measurement z, whose covariance may be one.
-fn measure3(f: KalmanFilter, z: [f64; 3], noise: [[f64; 3]; 3]) -> Step
-    ensures { λ r. ⌜ Answer f r (stored (measured 3 6 z (selection 3 6 0) noise (estimateOf f))) ⌝ }
+// The filter after a measurement with the innovation u, whose covariance is s.
+fn measure3(f: KalmanFilter, u: [f64; 3], s: [[f64; 3]; 3], noise: [[f64; 3]; 3]) -> Step
+    ensures { λ r. ⌜ Answer f r (stored (measuredBy 3 6 u s (selection 3 6 0) noise (estimateOf f))) ⌝ }
 {
-    let flat = f.covariance;
-    let p = matrix::flat::rows_6x6(flat);
-    let h = math::models::measurement_h3();
-    let s = matrix::sum::symmetrized_sum3(product::congruence_3x6(h, p), noise);
     match math::linalg::cholesky3(s) {
         math::linalg::Factor3::Lower(l) => {
-            let k = math::linalg::gain3(l, product::mul_6x6_transposed_3x6(p, h));
-            correct_finite3(f, z, noise, p, k)
+            let flat = f.covariance;
+            let p = matrix::flat::rows_6x6(flat);
+            let k = math::linalg::gain3(
+                l,
+                product::mul_6x6_transposed_3x6(p, math::models::measurement_h3()),
+            );
+            correct_finite3(f, u, noise, p, k)
         }
         math::linalg::Factor3::Fails => refuse(f, math::linalg::Refusal::NotPositiveDefinite),
     }
 }
 
-// The filter after the measurement z with the covariance `noise`.
-fn update3(f: KalmanFilter, z: [f64; 3], noise: [[f64; 3]; 3]) -> Step
-    ensures { λ r. ⌜ Answer f r (stored (updateReply 3 6 z (selection 3 6 0) noise (estimateOf f))) ⌝ }
-{
-    if math::linalg::is_finite3(z) {
-        match math::linalg::validate_covariance3(noise) {
-            math::linalg::Validity::Valid => measure3(f, z, noise),
-            math::linalg::Validity::Refused(why) => refuse(f, why),
-        }
-    } else {
-        refuse(f, math::linalg::Refusal::NonFiniteValue)
-    }
-}
-
-// The filter after a position z was measured, with the covariance `noise`.
-pub fn update_position(f: KalmanFilter, z: [f64; 3], noise: [f64; 9]) -> Step
-    ensures { λ r. ⌜ Answer f r (updatedByPosition z noise f) ⌝ }
-{
-    update3(f, z, matrix::flat::rows_3x3(noise))
-}
-
-// The filter corrected by the gain k: the state by the innovation, the covariance by the Joseph form.
+// The filter corrected by the gain k: the state by the innovation u, the covariance by the Joseph form.
 fn correct2(
     f: KalmanFilter,
-    z: [f64; 2],
+    u: [f64; 2],
     noise: [[f64; 2]; 2],
     p: [[f64; 6]; 6],
     k: [[f64; 2]; 6],
 ) -> Step
-    ensures { λ r. ⌜ Answer f r (stored (finished 6 (corrected 2 6 z (selection 2 6 3) noise (estimate (f .state) p) k))) ⌝ }
+    ensures { λ r. ⌜ Answer f r (stored (finished 6 (corrected 2 6 u (selection 2 6 3) noise (estimate (f .state) p) k))) ⌝ }
 {
     let x = f.state;
-    let h = math::models::velocity_h2();
-    let u = matrix::sum::sub2(z, product::mul_2x6_vector(h, x));
     let state = matrix::sum::add6(x, product::mul_6x2_vector(k, u));
-    let a = matrix::sum::complement6(product::mul_6x2_2x6(k, h));
+    let a = matrix::sum::complement6(product::mul_6x2_2x6(k, math::models::velocity_h2()));
     let left = product::congruence_6x6(a, p);
     let covariance = matrix::sum::symmetrized_sum6(left, product::congruence_6x2(k, noise));
     finish(f, state, covariance)
@@ -207,70 +183,36 @@ fn correct2(
 // The same, where the gain is finite.
 fn correct_finite2(
     f: KalmanFilter,
-    z: [f64; 2],
+    u: [f64; 2],
     noise: [[f64; 2]; 2],
     p: [[f64; 6]; 6],
     k: [[f64; 2]; 6],
 ) -> Step
-    ensures { λ r. ⌜ Answer f r (stored (gained 2 6 z (selection 2 6 3) noise (estimate (f .state) p) k)) ⌝ }
+    ensures { λ r. ⌜ Answer f r (stored (gained 2 6 u (selection 2 6 3) noise (estimate (f .state) p) k)) ⌝ }
 {
     if math::linalg::is_finite_6x2(k) {
-        correct2(f, z, noise, p, k)
+        correct2(f, u, noise, p, k)
     } else {
         refuse(f, math::linalg::Refusal::NonFiniteResult)
     }
 }
 
-// The filter after the measurement z, whose covariance may be one.
-fn measure2(f: KalmanFilter, z: [f64; 2], noise: [[f64; 2]; 2]) -> Step
-    ensures { λ r. ⌜ Answer f r (stored (measured 2 6 z (selection 2 6 3) noise (estimateOf f))) ⌝ }
+// The filter after a measurement with the innovation u, whose covariance is s.
+fn measure2(f: KalmanFilter, u: [f64; 2], s: [[f64; 2]; 2], noise: [[f64; 2]; 2]) -> Step
+    ensures { λ r. ⌜ Answer f r (stored (measuredBy 2 6 u s (selection 2 6 3) noise (estimateOf f))) ⌝ }
 {
-    let flat = f.covariance;
-    let p = matrix::flat::rows_6x6(flat);
-    let h = math::models::velocity_h2();
-    let s = matrix::sum::symmetrized_sum2(product::congruence_2x6(h, p), noise);
     match math::linalg::cholesky2(s) {
         math::linalg::Factor2::Lower(l) => {
-            let k = math::linalg::gain2(l, product::mul_6x6_transposed_2x6(p, h));
-            correct_finite2(f, z, noise, p, k)
+            let flat = f.covariance;
+            let p = matrix::flat::rows_6x6(flat);
+            let k = math::linalg::gain2(
+                l,
+                product::mul_6x6_transposed_2x6(p, math::models::velocity_h2()),
+            );
+            correct_finite2(f, u, noise, p, k)
         }
         math::linalg::Factor2::Fails => refuse(f, math::linalg::Refusal::NotPositiveDefinite),
     }
-}
-
-// The filter after the measurement z with the covariance `noise`.
-fn update2(f: KalmanFilter, z: [f64; 2], noise: [[f64; 2]; 2]) -> Step
-    ensures { λ r. ⌜ Answer f r (stored (updateReply 2 6 z (selection 2 6 3) noise (estimateOf f))) ⌝ }
-{
-    if math::linalg::is_finite2(z) {
-        match math::linalg::validate_covariance2(noise) {
-            math::linalg::Validity::Valid => measure2(f, z, noise),
-            math::linalg::Validity::Refused(why) => refuse(f, why),
-        }
-    } else {
-        refuse(f, math::linalg::Refusal::NonFiniteValue)
-    }
-}
-
-// The filter after a velocity v along x and y was measured, with the deviation std.
-pub fn update_velocity(f: KalmanFilter, v: [f64; 2], std: f64) -> Step
-    ensures { λ r. ⌜ Answer f r (updatedByVelocity v std f) ⌝ }
-{
-    update2(f, v, math::models::velocity_r2(std))
-}
-
-// The same for a position that is finite and a covariance that may be one: what the checks of a batch have found already.
-pub fn update_checked_position(f: KalmanFilter, z: [f64; 3], noise: [f64; 9]) -> Step
-    ensures { λ r. ⌜ Answer f r (updatedByCheckedPosition z noise f) ⌝ }
-{
-    measure3(f, z, matrix::flat::rows_3x3(noise))
-}
-
-// The same for a velocity that is finite and a deviation whose square may be a variance.
-pub fn update_checked_velocity(f: KalmanFilter, v: [f64; 2], std: f64) -> Step
-    ensures { λ r. ⌜ Answer f r (updatedByCheckedVelocity v std f) ⌝ }
-{
-    measure2(f, v, math::models::velocity_r2(std))
 }
 
 // Where f expects a position: once for a filter, whatever is measured.
@@ -316,5 +258,68 @@ pub fn squared_mahalanobis(f: KalmanFilter, z: [f64; 3], noise: [f64; 9]) -> mat
         }
     } else {
         math::linalg::Distance::Refused(math::linalg::Refusal::NonFiniteValue)
+    }
+}
+
+// The filter after a measured position, from where it is expected, for a measurement that is checked already.
+pub fn update_from(m: Expected, f: KalmanFilter, z: [f64; 3], noise: [f64; 9]) -> Step
+    ensures { λ r. ⌜ Answer f r (updatedFrom m z noise f) ⌝ }
+{
+    let position = m.position;
+    let covariance = m.covariance;
+    let u = matrix::sum::sub3(z, position);
+    let rows = matrix::flat::rows_3x3(noise);
+    let s = matrix::sum::symmetrized_sum3(matrix::flat::rows_3x3(covariance), rows);
+    measure3(f, u, s, rows)
+}
+
+// The filter after a position z was measured, with the covariance `noise`.
+pub fn update_position(f: KalmanFilter, z: [f64; 3], noise: [f64; 9]) -> Step
+    ensures { λ r. ⌜ Answer f r (updatedByPosition z noise f) ⌝ }
+{
+    if math::linalg::is_finite3(z) {
+        match math::linalg::validate_covariance3(matrix::flat::rows_3x3(noise)) {
+            math::linalg::Validity::Valid => update_from(expected_position(f), f, z, noise),
+            math::linalg::Validity::Refused(why) => refuse(f, why),
+        }
+    } else {
+        refuse(f, math::linalg::Refusal::NonFiniteValue)
+    }
+}
+
+// The filter after a velocity v along x and y was measured, with a covariance that may be one.
+fn measure_velocity(f: KalmanFilter, v: [f64; 2], noise: [[f64; 2]; 2]) -> Step
+    ensures { λ r. ⌜ Answer f r (stored (measured 2 6 v (selection 2 6 3) noise (estimateOf f))) ⌝ }
+{
+    let x = f.state;
+    let flat = f.covariance;
+    let h = math::models::velocity_h2();
+    let u = matrix::sum::sub2(v, product::mul_2x6_vector(h, x));
+    let s = matrix::sum::symmetrized_sum2(
+        product::congruence_2x6(h, matrix::flat::rows_6x6(flat)),
+        noise,
+    );
+    measure2(f, u, s, noise)
+}
+
+// The filter after a measured velocity that is finite, with a deviation whose square may be a variance.
+pub fn update_checked_velocity(f: KalmanFilter, v: [f64; 2], std: f64) -> Step
+    ensures { λ r. ⌜ Answer f r (updatedByCheckedVelocity v std f) ⌝ }
+{
+    measure_velocity(f, v, math::models::velocity_r2(std))
+}
+
+// The filter after a velocity v along x and y was measured, with the deviation std.
+pub fn update_velocity(f: KalmanFilter, v: [f64; 2], std: f64) -> Step
+    ensures { λ r. ⌜ Answer f r (updatedByVelocity v std f) ⌝ }
+{
+    let noise = math::models::velocity_r2(std);
+    if math::linalg::is_finite2(v) {
+        match math::linalg::validate_covariance2(noise) {
+            math::linalg::Validity::Valid => measure_velocity(f, v, noise),
+            math::linalg::Validity::Refused(why) => refuse(f, why),
+        }
+    } else {
+        refuse(f, math::linalg::Refusal::NonFiniteValue)
     }
 }

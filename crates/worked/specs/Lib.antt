@@ -1,4 +1,5 @@
 pub mod Case
 pub mod Roots
+pub mod Filters
 pub mod Lifecycles
 pub mod Table

@@ -2,7 +2,8 @@
 use mathlib.Core.List.{List, _++_}
 use Rattle.worked.specs.Case.{Case}
 use Rattle.worked.specs.Roots.{rootCases}
+use Rattle.worked.specs.Filters.{filterCases}
 use Rattle.worked.specs.Lifecycles.{lifecycleCases}
 
 abbrev pub table : List Case
-table = rootCases ++ lifecycleCases
+table = rootCases ++ filterCases ++ lifecycleCases

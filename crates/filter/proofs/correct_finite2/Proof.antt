@@ -1,7 +1,7 @@
 use mathlib.Core.Path.{sym, ap, _∙_}
 use borrow.Author.Needs.{needs}
 use Rattle.math.specs.Models.{selection}
-use Rattle.filter.specs.Kalman.{estimate}
+use Rattle.filter.specs.Kalman.{estimate, finished, corrected}
 use Rattle.filter.specs.Filter.{stored}
 use Rattle.filter.proofs.Steps.{answers, stored-refused, finite-gain, infinite-gain}
 use Rattle.filter.proofs.correct_finite2.Statement.{statement}
@@ -11,13 +11,13 @@ returns : tie.Need-returns
 returns c =
     let test = c .before .before in
     let s = test .before .args in
-    answers (c .correct2 .ensures) (ap stored (finite-gain 2 6 (s .z) (selection 2 6 3) (s .noise) (estimate (s .f .state) (s .p)) (s .k) (sym (test .is-finite-6x2 .ensures) ∙ c .before .if1 .taken)))
+    answers {r = stored (finished 6 (corrected 2 6 (s .u) (selection 2 6 3) (s .noise) (estimate (s .f .state) (s .p)) (s .k)))} (c .correct2 .ensures) (ap stored (finite-gain 2 6 (s .u) (selection 2 6 3) (s .noise) (estimate (s .f .state) (s .p)) (s .k) (sym (test .is-finite-6x2 .ensures) ∙ c .before .if1 .taken)))
 
 returns-2 : tie.Need-returns-2
 returns-2 c =
     let test = c .before .before in
     let s = test .before .args in
-    answers (c .refuse .ensures) (stored-refused 9 ∙ ap stored (infinite-gain 2 6 (s .z) (selection 2 6 3) (s .noise) (estimate (s .f .state) (s .p)) (s .k) (sym (test .is-finite-6x2 .ensures) ∙ c .before .if1 .left)))
+    answers (c .refuse .ensures) (stored-refused 9 ∙ ap stored (infinite-gain 2 6 (s .u) (selection 2 6 3) (s .noise) (estimate (s .f .state) (s .p)) (s .k) (sym (test .is-finite-6x2 .ensures) ∙ c .before .if1 .left)))
 
 pub correct-finite2-spec : {M : Type 1} → statement M
 correct-finite2-spec =

@@ -12,7 +12,11 @@ returns : tie.Need-returns
 unfolding updatedByCheckedVelocity
 returns c =
     let s = c .before .before .args in
-    answers (c .measure2 .ensures) (ap (λ (r : Matrix). stored (measured 2 6 (s .v) (selection 2 6 3) r (estimateOf (s .f)))) (c .before .velocity-r2 .ensures))
+    answers (c .measure-velocity .ensures) (ap (λ (r : Matrix). stored (measured 2 6 (s .v) (selection 2 6 3) r (estimateOf (s .f)))) (c .before .velocity-r2 .ensures))
 
 pub update-checked-velocity-spec : {M : Type 1} → statement M
-update-checked-velocity-spec = tie.close (tie.spec (λ c κs. search needs) (λ c κs. search needs) returns)
+update-checked-velocity-spec =
+    tie.close (tie.spec
+    (λ c κs. search needs)
+    (λ c κs. search needs)
+    returns)

@@ -1,0 +1,30 @@
+use mathlib.Core.Path.{_≡_}
+use borrow.Author.Needs.{needs}
+use Rattle.matrix.specs.Matrix.{Vector, Matrix}
+use Rattle.matrix.specs.Flat.{rowsOf}
+use Rattle.math.specs.Models.{selection}
+use Rattle.filter.specs.Kalman.{measuredBy}
+use Rattle.filter.specs.Filter.{estimateOf, stored, innovationFrom, spreadFrom, updatedFrom}
+use Rattle.filter.proofs.Steps.{answers}
+use Rattle.filter.proofs.update_from.Statement.{statement}
+use Rattle.filter.proofs.update_from.Tie as tie
+
+returns : tie.Need-returns
+unfolding updatedFrom
+returns c =
+    let s = c .before .before .before .before .before .before .before .args in
+    let u : c .before .before .before .before .sub3 .result ≡ innovationFrom (s .m) (s .z) = cc in
+    let r : c .before .before .before .rows-3x3 .result ≡ rowsOf 3 3 (s .noise) = cc in
+    let t : c .before .symmetrized-sum3 .result ≡ spreadFrom (s .m) (s .noise) = cc in
+    answers (c .measure3 .ensures) (λ i. stored (measuredBy 3 6 (u i) (t i) (selection 3 6 0) (r i) (estimateOf (s .f))))
+
+pub update-from-spec : {M : Type 1} → statement M
+update-from-spec =
+    tie.close
+    (tie.spec
+    (λ c κs. search needs)
+    (λ c κs. search needs)
+    (λ c κs. search needs)
+    (λ c κs. search needs)
+    (λ c κs. search needs)
+    returns)
