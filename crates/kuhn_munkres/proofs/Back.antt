@@ -40,11 +40,11 @@ module _ {N : Type 0} (O : Ops N) (way : List ℕ) (time : ℕ → ℕ) (L : ℕ
   not-on j t d o = let r = time-le d o in omega arith
 
   -- a turn
-  back-last : (k : ℕ) (p : List ℕ) (j : ℕ) → getD way j 0 ≡ 0 → back O (suc k) way p j ≡ set p j (getD p (getD way j 0) 0)
+  pub back-last : (k : ℕ) (p : List ℕ) (j : ℕ) → getD way j 0 ≡ 0 → back O (suc k) way p j ≡ set p j (getD p (getD way j 0) 0)
   unfolding back
   back-last k p j e = ap (λ (b : Bool). ended O b (set p j (getD p (getD way j 0) 0)) (back O k way (set p j (getD p (getD way j 0) 0)) (getD way j 0))) (eq-eqb (getD way j 0) 0 e)
 
-  back-more : (k : ℕ) (p : List ℕ) (j : ℕ) → (getD way j 0 ≡ 0 → ⊥) → back O (suc k) way p j ≡ back O k way (set p j (getD p (getD way j 0) 0)) (getD way j 0)
+  pub back-more : (k : ℕ) (p : List ℕ) (j : ℕ) → (getD way j 0 ≡ 0 → ⊥) → back O (suc k) way p j ≡ back O k way (set p j (getD p (getD way j 0) 0)) (getD way j 0)
   unfolding back
   back-more k p j g = ap (λ (b : Bool). ended O b (set p j (getD p (getD way j 0) 0)) (back O k way (set p j (getD p (getD way j 0) 0)) (getD way j 0))) (ne-eqb (getD way j 0) 0 g)
 

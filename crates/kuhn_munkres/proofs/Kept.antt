@@ -13,7 +13,7 @@ use Rattle.kuhn_munkres.proofs.Places.{scan-kept}
 
 module _ {N : Type 0} (O : Ops N) where
   -- the same holds of a state that is found
-  pub AllFound : (State N → Type 0) → Search N → Type 0
+  unfoldable pub AllFound : (State N → Type 0) → Search N → Type 0
   AllFound P (found s) = P s
   AllFound P stopped = Unit {0}
   AllFound P spent = Unit {0}
@@ -32,7 +32,7 @@ module _ {N : Type 0} (O : Ops N) where
   turned-all P true true s r h g = h
   turned-all P true false s r h g = g
 
-  all-map : (P Q : State N → Type 0) (x : Search N) → ((s : State N) → P s → Q s) → AllFound P x → AllFound Q x
+  pub all-map : (P Q : State N → Type 0) (x : Search N) → ((s : State N) → P s → Q s) → AllFound P x → AllFound Q x
   unfolding AllFound
   all-map P Q (found s) f h = f s h
   all-map P Q stopped f h = tt

@@ -5,3 +5,4 @@ pub mod Back
 pub mod Examples
 pub mod Labels
 pub mod Kept
+pub mod Matched
