@@ -1,16 +1,3 @@
 // The library for C and Rust programs: what include/pikowhanu.h declares. Each call answers 0, or 01's number of the refusal and leaves what it was lent untouched.
-ghost use Rattle.pikowhanu.specs.Boundary.{RootCall};
-
-// The square root of x into out.
-#[no_mangle]
-pub extern "C" fn pk_root(x: f64, out: &mut f64) -> u32
-    ensures { λ r. ⌜ RootCall x r (now (out .entry)) (now (out .exit)) ⌝ }
-{
-    match number::root::root(x) {
-        number::root::SquareRoot::Value(v) => {
-            *out = v;
-            0
-        }
-        number::root::SquareRoot::Refused => 9,
-    }
-}
+mod mates;
+mod root;

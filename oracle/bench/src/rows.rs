@@ -1,6 +1,8 @@
 //! The list of rows. A row whose archive is not linked is not in it.
 
 #[cfg(feature = "pikowhanu")]
+mod assignment;
+#[cfg(feature = "pikowhanu")]
 mod root;
 
 use crate::measure::{measure, Measured, Row};
@@ -19,6 +21,30 @@ pub const ROWS: &[Entry] = &[
     entry::<root::Latency>(),
     #[cfg(feature = "pikowhanu")]
     entry::<root::AnySize>(),
+    #[cfg(feature = "pikowhanu")]
+    entry::<assignment::Tables<assignment::Dense8>>(),
+    #[cfg(feature = "pikowhanu")]
+    entry::<assignment::Tables<assignment::Dense32>>(),
+    #[cfg(feature = "pikowhanu")]
+    entry::<assignment::Tables<assignment::Dense64>>(),
+    #[cfg(feature = "pikowhanu")]
+    entry::<assignment::Tables<assignment::Fours8>>(),
+    #[cfg(feature = "pikowhanu")]
+    entry::<assignment::Tables<assignment::Fours32>>(),
+    #[cfg(feature = "pikowhanu")]
+    entry::<assignment::Tables<assignment::Fours64>>(),
+    #[cfg(feature = "pikowhanu")]
+    entry::<assignment::Tables<assignment::Crowd8>>(),
+    #[cfg(feature = "pikowhanu")]
+    entry::<assignment::Tables<assignment::Crowd32>>(),
+    #[cfg(feature = "pikowhanu")]
+    entry::<assignment::Tables<assignment::Crowd64>>(),
+    #[cfg(feature = "pikowhanu")]
+    entry::<assignment::Tables<assignment::Products8>>(),
+    #[cfg(feature = "pikowhanu")]
+    entry::<assignment::Tables<assignment::Products32>>(),
+    #[cfg(feature = "pikowhanu")]
+    entry::<assignment::Tables<assignment::Products64>>(),
 ];
 
 /// What a reader must know of the rows.
@@ -26,7 +52,9 @@ pub const NOTES: &str = "\
 root: of normal numbers from 2^-20 to 2^20, as the tracker has them; of any size: every exponent, 1 in 16 subnormal,
 on which the machine is slower too. Ours is called through C, as any caller has it; the machine's is one scalar
 instruction, inlined, as compiled Rust has it. Throughput takes each root on its own; latency makes each input wait
-for the root before it.";
+for the root before it.
+assignment: 16 random tables of each side, ours through C, the Rust's linear_assignment over rows as it takes them. Dense: every
+pair is within the gate; fours: each row has two or three finite costs, in groups of at most four; crowd: as many, anywhere; i x j: entry i times j.";
 
 const fn entry<R: Row>() -> Entry {
     Entry {

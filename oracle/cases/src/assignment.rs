@@ -1,4 +1,4 @@
-//! Cost tables of every kind; the reply is the pairing or the refusal.
+//! Cost tables of every kind; the reply is the pairing or the refusal, with what is left of the places that are lent for it.
 
 use factor_tracker_core::assignment::Assignment;
 use factor_tracker_core::judge::assignment::{assignment, Table};
@@ -10,6 +10,16 @@ use crate::words::{self, float, Words};
 
 #[derive(Clone, Debug)]
 pub struct AssignmentCase(pub Table);
+
+/// What can be seen of a call that is lent a place for each row's column, and of one that is lent a place too few.
+#[derive(Clone, Debug, PartialEq, Eq)]
+pub struct AssignmentReply {
+    pub given: Result<Assignment, u32>,
+    /// The places behind those of the rows, and after a refusal all places, are as they were.
+    pub rest_untouched: bool,
+    /// The refusal where there is a place too few, if all places are as they were. Nothing where there are no rows.
+    pub short: Option<u32>,
+}
 
 /// How the costs of one table are drawn.
 #[derive(Clone, Copy)]
@@ -78,11 +88,65 @@ fn forbidden(random: &mut Random) -> f64 {
     [f64::INFINITY, f64::NEG_INFINITY, f64::NAN][random.below(3) as usize]
 }
 
+/// A table whose length is as stated, with column cost 0.
+fn table<const R: usize, const C: usize>(costs: [[f64; C]; R], row_cost: f64) -> AssignmentCase {
+    sized(R, C, costs.as_flattened().to_vec(), row_cost)
+}
+
+fn sized(rows: usize, columns: usize, costs: Vec<f64>, row_cost: f64) -> AssignmentCase {
+    AssignmentCase(Table {
+        rows,
+        columns,
+        costs,
+        row_cost,
+        column_cost: 0.0,
+    })
+}
+
+/// The specification's worked tables; ties; steps that are not finite; a forbidden pair that is given; refusals that meet.
+fn worked() -> Vec<AssignmentCase> {
+    const NO: f64 = f64::INFINITY;
+    let square = |cost: fn(usize, usize) -> f64| {
+        let costs = (0..64 * 64).map(|k| cost(k / 64, k % 64)).collect();
+        sized(64, 64, costs, 4096.0)
+    };
+    vec![
+        table([[1.0, 2.0], [NO, 4.0]], 10.0),
+        table::<0, 3>([], 10.0),
+        table([[]; 3], 10.0),
+        table::<0, 0>([], 10.0),
+        table([[NO; 2]; 2], 10.0),
+        table([[f64::NAN, f64::NEG_INFINITY], [NO, -0.0]], 0.0),
+        table([[10.0]], 10.0),
+        table([[11.0]], 10.0),
+        table([[1.0, 1.0]], 10.0),
+        table([[1.0], [1.0]], 10.0),
+        table([[1.0; 2]; 2], 10.0),
+        table([[10.0], [10.0]], 10.0),
+        table([[-f64::MAX], [-f64::MAX]], f64::MAX),
+        table(
+            [[f64::MAX, 1.0], [1e300, 1e308], [0.0, f64::MAX / 2.0]],
+            f64::MAX,
+        ),
+        table([[-1e26, NO], [-2e26, -1.0]], 0.0),
+        square(|_, _| 1.0),
+        square(|i, j| (i * j) as f64),
+        sized(65, 0, vec![1.0], f64::NAN),
+        sized(0, 65, vec![1.0], f64::NAN),
+        sized(65, 64, vec![1.0; 65 * 64], 1.0),
+        sized(1, 2, vec![1.0], NO),
+        sized(1, 2, vec![1.0], 1.0),
+        sized(0, 2, vec![1.0], 1.0),
+        sized(0, 2, vec![], f64::NAN),
+        sized(2, 0, vec![], f64::NEG_INFINITY),
+    ]
+}
+
 impl Case for AssignmentCase {
-    type Reply = Result<Assignment, u32>;
+    type Reply = AssignmentReply;
 
     fn fixed() -> Vec<Self> {
-        Vec::new()
+        worked()
     }
 
     fn random(random: &mut Random) -> Self {
@@ -118,7 +182,11 @@ impl Case for AssignmentCase {
     }
 
     fn judged(&self) -> Self::Reply {
-        assignment(&self.0)
+        AssignmentReply {
+            given: assignment(&self.0),
+            rest_untouched: true,
+            short: (self.0.rows > 0).then_some(11),
+        }
     }
 
     fn smaller(&self) -> impl Iterator<Item = Self> {

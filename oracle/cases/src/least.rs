@@ -2,6 +2,7 @@
 
 use factor_tracker_core::assignment::Assignment;
 use factor_tracker_core::judge::assignment::{least_total, total, Table};
+use factor_tracker_core::judge::flow::least_total_by_flow;
 use inputs::Random;
 use trials::Case;
 
@@ -11,8 +12,17 @@ use crate::assignment::{smaller_tables, AssignmentCase};
 #[derive(Clone, Debug)]
 pub struct LeastCase(pub Table);
 
-/// Most rows and columns: every set of columns is tried.
-const SIDE: u64 = 8;
+/// Most columns for which every set of them is tried; the least total of a wider table is found by flows.
+const FEW: usize = 8;
+
+/// Few rows and columns mostly; now and then up to the limit.
+fn side(random: &mut Random, wide: bool) -> usize {
+    match (wide, random.below(8)) {
+        (true, 0) => 64,
+        (true, _) => random.below(65) as usize,
+        (false, _) => random.below(FEW as u64 + 1) as usize,
+    }
+}
 
 impl LeastCase {
     /// The total of a pairing given; nothing unless it is one: each row and column in one pair or one unmatched
@@ -54,15 +64,14 @@ impl Case for LeastCase {
     }
 
     fn random(random: &mut Random) -> Self {
-        let (rows, columns) = (
-            random.below(SIDE + 1) as usize,
-            random.below(SIDE + 1) as usize,
-        );
+        let wide = random.below(64) == 0;
+        let (rows, columns) = (side(random, wide), side(random, wide));
+        let forbidden = random.below(6);
         let span = [2, 30, 1_000_000][random.below(3) as usize];
         let whole = |random: &mut Random| random.below(2 * span + 1) as f64 - span as f64;
-        let cost = |random: &mut Random| match random.below(4) {
-            0 => f64::NAN,
-            _ => whole(random),
+        let cost = |random: &mut Random| match random.below(6) < forbidden {
+            true => f64::NAN,
+            false => whole(random),
         };
         let costs = (0..rows * columns).map(|_| cost(random)).collect();
         let row_cost = whole(random);
@@ -76,11 +85,11 @@ impl Case for LeastCase {
     }
 
     fn judged(&self) -> Option<i64> {
-        Some(least_total(
-            &self.costs(),
-            self.0.columns,
-            self.0.row_cost as i64,
-        ))
+        let least = match self.0.columns <= FEW {
+            true => least_total,
+            false => least_total_by_flow,
+        };
+        Some(least(&self.costs(), self.0.columns, self.0.row_cost as i64))
     }
 
     /// Rows and columns only: a number made smaller might not be whole.
@@ -98,7 +107,8 @@ impl Case for LeastCase {
         let sound = whole(table.row_cost)
             && table.column_cost == 0.0
             && table.costs.len() == table.rows * table.columns
-            && table.columns <= 16
+            && table.rows <= 64
+            && table.columns <= 64
             && table
                 .costs
                 .iter()

@@ -87,7 +87,9 @@ fn tables_meet_every_refusal() {
         .into_iter()
         .map(|case| case.judged());
     met(
-        replies.map(|reply| reply.err().unwrap_or(0)).collect(),
+        replies
+            .map(|reply| reply.given.err().unwrap_or(0))
+            .collect(),
         [0, 9, 10, 11],
     );
 }
@@ -96,7 +98,8 @@ fn tables_meet_every_refusal() {
 #[test]
 fn tables_meet_a_forbidden_pair_given() {
     let given = |case: &AssignmentCase| {
-        let pairs = case.judged().map(|given| given.pairs).unwrap_or_default();
+        let given = case.judged().given;
+        let pairs = given.map(|given| given.pairs).unwrap_or_default();
         let cost = |(i, j): (usize, usize)| case.0.costs[i * case.0.columns + j];
         pairs.into_iter().any(|pair| !cost(pair).is_finite())
     };
@@ -179,11 +182,16 @@ fn calls_meet_every_refusal() {
     met(replies.map(|reply| number(reply.answer)).collect(), 0..=12);
 }
 
+/// Wide tables, whose least total is found by flows, are among them.
 #[test]
 fn the_rusts_pairings_are_least() {
+    assert!(some::<LeastCase>(3_000)
+        .iter()
+        .any(|case| case.0.columns == 64));
     for case in some::<LeastCase>(3_000) {
         let given = AssignmentCase(case.0.clone())
             .judged()
+            .given
             .expect("a whole table is taken");
         assert_eq!(case.total_of(&given), case.judged());
     }

@@ -1,5 +1,9 @@
 //! The list of parts. A part whose archive or program is not built is not in it.
 
+#[cfg(feature = "pikowhanu")]
+mod assignment;
+#[cfg(feature = "pikowhanu")]
+mod least;
 #[cfg(feature = "replay")]
 mod lifecycle;
 #[cfg(feature = "pikowhanu")]
@@ -21,6 +25,10 @@ pub struct Entry {
 pub const PARTS: &[Entry] = &[
     #[cfg(feature = "pikowhanu")]
     entry::<root::RootPart>(),
+    #[cfg(feature = "pikowhanu")]
+    entry::<assignment::AssignmentPart>(),
+    #[cfg(feature = "pikowhanu")]
+    entry::<least::LeastPart>(),
     #[cfg(feature = "replay")]
     entry::<lifecycle::LifecyclePart>(),
     #[cfg(feature = "replay")]

@@ -3,6 +3,7 @@
 
 pub mod assignment;
 pub mod filter;
+pub mod flow;
 pub mod lifecycle;
 pub mod report;
 pub mod sensors;

@@ -2,6 +2,7 @@
 
 use factor_tracker_core::assignment::Assignment;
 use factor_tracker_core::judge::assignment::{assignment, least_total, total, Table};
+use factor_tracker_core::judge::flow::least_total_by_flow;
 use inputs::Random;
 
 const FORBIDDEN: f64 = f64::INFINITY;
@@ -127,6 +128,18 @@ fn the_total_is_least_for_whole_costs() {
         assert_eq!(
             total(&costs, &given, row_cost),
             Some(least_total(&costs, columns, row_cost))
+        );
+    }
+}
+
+#[test]
+fn flows_find_the_same_totals() {
+    let mut random = Random::new(2);
+    for _ in 0..20_000 {
+        let (costs, columns, row_cost) = whole_table(&mut random);
+        assert_eq!(
+            least_total_by_flow(&costs, columns, row_cost),
+            least_total(&costs, columns, row_cost)
         );
     }
 }

@@ -6,8 +6,8 @@ use Rattle.number.specs.Reply.{Reply, refused, given}
 use Rattle.number.specs.Root.{NearestRoot, rootReply, replyOfRoot}
 use Rattle.number.proofs.root.Cases.{positive-given}
 use Rattle.pikowhanu.specs.Boundary.{codeOf, leftIn, RootCall}
-use Rattle.pikowhanu.proofs.pk_root.Statement.{statement}
-use Rattle.pikowhanu.proofs.pk_root.Tie as tie
+use Rattle.pikowhanu.proofs.root.pk_root.Statement.{statement}
+use Rattle.pikowhanu.proofs.root.pk_root.Tie as tie
 
 returns : tie.Need-returns
 returns c =

@@ -1,0 +1,56 @@
+-- The assignment as a C caller sees it: for each row the column that it is paired with.
+use mathlib.Core.Path.{_≡_}
+use mathlib.Core.Bool.{Bool, true, false, cond, _&&_}
+use mathlib.Core.List.{List, [], _∷_, _++_, map}
+use mathlib.Core.Option.{Option}
+use Prim.Native.Nat.{ℕ, zero, suc}
+use lib.ListN.{length, getD}
+use lib.Dec.{eqb, ltb}
+use lib.Ieee.{Float}
+use Rattle.number.specs.Reply.{Reply, refused, given}
+use Rattle.lists.specs.Lay.{lay}
+use Rattle.kuhn_munkres.specs.Assignment.{Pair, Pairs, pairsFrom, orElse, assignmentReply}
+use Rattle.assignment.specs.Listing.{padded, rowOf, columnIn}
+use Rattle.pikowhanu.specs.Boundary.{codeOf}
+
+-- 2⁶⁴ − 1, for a row that is left alone
+abbrev pub alone : ℕ
+alone = 0xffff_ffff_ffff_ffff
+
+-- the column that row i is paired with
+unfoldable pub mateOf : List Pair → ℕ → ℕ
+mateOf [] i = alone
+mateOf (p ∷ l) i = let r = mateOf l i in cond (eqb (p .row) i) (p .column) r
+
+-- those of rows 0, 1, .., n of them
+unfoldable pub matesOf : List Pair → ℕ → List ℕ
+matesOf l zero = []
+matesOf l (suc n) = matesOf l n ++ (mateOf l n ∷ [])
+
+-- What the call answers: 11 also where there is no room for each row's mate, before 9 and 10.
+unfoldable pub matesReply : List Float → ℕ → ℕ → Float → Float → ℕ → Reply Pairs
+matesReply costs n m rowCost columnCost room = orElse (ltb room n) 11 (assignmentReply costs n m rowCost columnCost)
+
+-- 01, What each call declines: "A refusal answers its number and changes nothing lent or held." Otherwise the first n places have the rows' mates, and those
+-- behind them are as they were.
+abbrev pub matesAfter : ℕ → Reply Pairs → List ℕ → List ℕ
+matesAfter n (refused k) before = before
+matesAfter n (given a) before = lay (matesOf (a .pairs) n) before
+
+pub record AssignmentCall (reply : Reply Pairs) (n r : ℕ) (before after : List ℕ) : Type 0 where
+  pub code : r ≡ codeOf reply
+  pub mates : after ≡ matesAfter n reply before
+
+-- ---- the walk over the rows, beside the pairs by ascending row
+-- the k-th of count pairs is row i's
+abbrev pub hits : List ℕ → ℕ → ℕ → ℕ → Bool
+hits pairRows count k i = ltb k count && eqb (getD pairRows k 0) i
+
+-- the arrays hold the pairs of n rows, for some takers of the columns
+pub record PairsHeld (t : List (Option ℕ)) (n : ℕ) (pairRows pairColumns : List ℕ) (count : ℕ) : Type 0 where
+  pub rows-are : pairRows ≡ padded (map rowOf (pairsFrom t 0 n))
+  pub columns-are : pairColumns ≡ padded (map columnIn (pairsFrom t 0 n))
+  pub count-is : count ≡ length (pairsFrom t 0 n)
+
+pub record MatesWritten (n : ℕ) (pairRows pairColumns : List ℕ) (count : ℕ) (before after : List ℕ) : Type 0 where
+  pub is : (t : List (Option ℕ)) → PairsHeld t n pairRows pairColumns count → after ≡ lay (matesOf (pairsFrom t 0 n) n) before

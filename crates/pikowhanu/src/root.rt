@@ -1,0 +1,16 @@
+// The square root for C programs.
+ghost use Rattle.pikowhanu.specs.Boundary.{RootCall};
+
+// The square root of x into out.
+#[no_mangle]
+pub extern "C" fn pk_root(x: f64, out: &mut f64) -> u32
+    ensures { λ r. ⌜ RootCall x r (now (out .entry)) (now (out .exit)) ⌝ }
+{
+    match number::root::root(x) {
+        number::root::SquareRoot::Value(v) => {
+            *out = v;
+            0
+        }
+        number::root::SquareRoot::Refused => 9,
+    }
+}
