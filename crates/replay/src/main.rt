@@ -6,14 +6,39 @@
 //     where the track is dropped, created_at, the last observation and the last counted time (0 where there is none), and the count, with 2^32 more where there
 //     is a last observation and 2^33 more where there is a last counted time.
 //   L limit: a list with no sensors. S sensor: one more. Each answers four lines: S and four of the sensors, 2^32 where the list has ended.
+//   V place and three numbers, by their bits: into the numbers that calls on a filter take, from that place on: 6 of a state, 36 of its covariance, 3 of a position, 9
+//     of its covariance. Answers nothing.
+//   K: a filter of the state and covariance. P dt, density: a prediction. U: an update by the position. W two velocities and their deviation: an update by them. Each
+//     answers F and 0 or the refusal's number, then the filter in eleven lines V of four numbers, zeros after the last. D: the squared distance of the position; answers
+//     E, 0 and the distance, or the refusal's number.
+mod filters;
+mod floats;
 mod line;
 mod lives;
 mod roots;
 
+use filters::Filters;
 use lives::Lives;
 
+struct State {
+    lives: Lives,
+    filters: Filters,
+}
+
+// Whether a call is one on a filter.
+fn is_filters(letter: u8) -> bool {
+    letter == b'V'
+        || letter == b'K'
+        || letter == b'P'
+        || letter == b'U'
+        || letter == b'W'
+        || letter == b'D'
+}
+
 // Runs one line's call.
-fn run(lives: Lives, l: &[u8; 70]) -> Lives {
+fn run(state: State, l: &[u8; 70]) -> State {
+    let lives = state.lives;
+    let filters = state.filters;
     let letter = l[0];
     let first = line::number(l, 2);
     let second = line::number(l, 19);
@@ -21,19 +46,30 @@ fn run(lives: Lives, l: &[u8; 70]) -> Lives {
     let fourth = line::number(l, 53);
     if letter == b'Q' {
         roots::write(first, second, third, fourth);
-        lives
+        state
+    } else if is_filters(letter) {
+        State {
+            lives,
+            filters: filters::run(filters, letter, first, second, third, fourth),
+        }
     } else {
-        lives::run(lives, letter, first, second, third, fourth)
+        State {
+            lives: lives::run(lives, letter, first, second, third, fourth),
+            filters,
+        }
     }
 }
 
 fn main() {
-    let mut lives = lives::new();
+    let mut state = State {
+        lives: lives::new(),
+        filters: filters::new(),
+    };
     for _ in 0..1099511627776u64 {
         let mut l = [0u8; 70];
         if io::read_full(0, &mut l) < 70 {
             break;
         }
-        lives = run(lives, &l);
+        state = run(state, &l);
     }
 }

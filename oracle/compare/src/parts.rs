@@ -2,6 +2,8 @@
 
 #[cfg(feature = "pikowhanu")]
 mod assignment;
+#[cfg(feature = "replay")]
+mod filter;
 #[cfg(feature = "pikowhanu")]
 mod least;
 #[cfg(feature = "replay")]
@@ -29,6 +31,8 @@ pub const PARTS: &[Entry] = &[
     entry::<assignment::AssignmentPart>(),
     #[cfg(feature = "pikowhanu")]
     entry::<least::LeastPart>(),
+    #[cfg(feature = "replay")]
+    entry::<filter::FilterPart>(),
     #[cfg(feature = "replay")]
     entry::<lifecycle::LifecyclePart>(),
     #[cfg(feature = "replay")]

@@ -1,5 +1,6 @@
 //! Writes what the gate's program replay reads, and what it must write: recorder FOLDER, for FOLDER/stdin and FOLDER/stdout.
 
+mod filters;
 mod lives;
 mod root;
 mod sensors;
@@ -26,6 +27,7 @@ fn main() -> ExitCode {
     root::record(&mut recording);
     lives::record(&mut recording);
     sensors::record(&mut recording);
+    filters::record(&mut recording);
     match write(&recording, Path::new(folder)) {
         Ok(()) => {
             let (calls, answers) = (recording.calls.len(), recording.answers.len());

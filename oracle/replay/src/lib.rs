@@ -1,5 +1,6 @@
 //! Calls of our program replay: the lines that it reads and writes, and how to run it.
 
+pub mod filters;
 mod line;
 pub mod lives;
 mod program;

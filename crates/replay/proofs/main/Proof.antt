@@ -5,13 +5,16 @@ use Rattle.replay.proofs.main.Statement.{statement}
 use Rattle.replay.proofs.main.Tie as tie
 
 abbrev Inv-loop : tie.InvT-loop
-Inv-loop lives₀ counter₀ lives counter = counter ≤ 1099511627776
+Inv-loop state₀ counter₀ state counter = counter ≤ 1099511627776
 
 abbrev μ-loop : tie.MeasureT-loop
-μ-loop lives₀ counter₀ lives counter = 1099511627776 - counter
+μ-loop state₀ counter₀ state counter = 1099511627776 - counter
 
 new-requires : tie.Need-new-requires Inv-loop μ-loop
 new-requires c κs = search needs
+
+new-requires-2 : tie.Need-new-requires-2 Inv-loop μ-loop
+new-requires-2 c κs = search needs
 
 loop-holds : tie.Need-loop-holds Inv-loop μ-loop
 loop-holds c = omega arith
@@ -41,4 +44,4 @@ returns-2 : tie.Need-returns-2 Inv-loop μ-loop
 returns-2 c = search needs
 
 pub main-spec : {M : Type 1} → statement M
-main-spec = tie.close (tie.spec Inv-loop μ-loop new-requires loop-holds slice-aggregate-read-full read-full-requires run-requires add-counter loop-less loop-again returns returns-2)
+main-spec = tie.close (tie.spec Inv-loop μ-loop new-requires new-requires-2 loop-holds slice-aggregate-read-full read-full-requires run-requires add-counter loop-less loop-again returns returns-2)
