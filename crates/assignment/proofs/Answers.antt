@@ -2,21 +2,25 @@
 use mathlib.Core.Path.{_≡_, refl, sym, ap, ap₂, _∙_, subst}
 use mathlib.Core.List.{List, [], _∷_, map}
 use mathlib.Core.Option.{Option}
-use Prim.Native.Nat.{ℕ, _≤_, _<_}
-use native.Mathlib.Decide.{decLt}
+use Prim.Native.Nat.{ℕ, _*_, _≤_, _<_}
+use mathlib.Core.Bool.{Bool, true, false}
+use native.Mathlib.Decide.{ℕ-discrete, decLt}
 use native.Mathlib.Omega.{arith}
 use lib.ListN.{length, take, length-map}
 use lib.Ieee.{Float}
+use lib.Ieee.Scale.{finite}
 use Rattle.number.specs.Reply.{Reply, refused, given}
 use Rattle.kuhn_munkres.specs.Strike.{zipped}
-use Rattle.kuhn_munkres.specs.Assignment.{Pair, Pairs, bind, pairsOf, takersReply, assignmentReply}
-use Rattle.assignment.specs.Listing.{padded, rowOf, columnIn, pairOf, assignmentOf, assignmentFor, pairsIn, AssignmentAnswer}
+use Rattle.kuhn_munkres.specs.Assignment.{Pair, Pairs, bind, rowsOf, pairing, pairsOf, takersReply, assignmentReply}
+use Rattle.assignment.specs.Listing.{padded, rowOf, columnIn, pairOf, assignmentOf, assignmentFor, pairsIn, Once, AssignmentAnswer}
 use Rattle.assignment.specs.Replies.{replyOf}
 use Rattle.assignment.specs.declared.Assignment.{Assignment}
 use Rattle.assignment.specs.declared.Assigned.{Assigned}
 use Rattle.assignment.specs.declared.Outcome.{Outcome}
 use Rattle.assignment.specs.declared.Outcome.the-variants.{Given}
-use Rattle.assignment.proofs.Calls.{rows-over, columns-over}
+use Rattle.assignment.proofs.Calls.{rows-over, columns-over, row-cost-bad, column-cost-bad, size-bad, checked}
+use Rattle.assignment.proofs.EachOnce.{each-once}
+use Rattle.assignment.proofs.Once.{pairing-sound}
 use Rattle.assignment.proofs.Listings.{front}
 
 zip-pairs : (l : List Pair) → zipped pairOf (map rowOf l) (map columnIn l) ≡ l
@@ -49,17 +53,48 @@ module _ (costs : List Float) (n m : ℕ) (rowCost columnCost : Float) where
       go (no h) (yes g) = absurd (never 11 t (takersReply costs n m rowCost columnCost) (columns-over costs n m rowCost columnCost (omega arith) g) e)
       go (no h) (no g) = (omega arith, omega arith)
 
-  pub answer-given : (t : List (Option ℕ)) (r : Assigned) → given t ≡ takersReply costs n m rowCost columnCost → r .outcome ≡ Given → r .assignment ≡ assignmentOf (pairsOf n t) → AssignmentAnswer (assignmentReply costs n m rowCost columnCost) r
+  -- an answered call passed every check
+  record Passed (t : List (Option ℕ)) : Type 0 where
+    rows-few : n ≤ 64
+    columns-few : m ≤ 64
+    size : length costs ≡ n * m
+    is : pairing rowCost columnCost (rowsOf n m costs) m ≡ given t
+
+  passed : (t : List (Option ℕ)) → given t ≡ takersReply costs n m rowCost columnCost → Passed t
+  passed t e = rows-ok (few t e .0) (few t e .1) (finite rowCost) refl (finite columnCost) refl (ℕ-discrete (length costs) (n * m))
+    where
+      rows-ok : n ≤ 64 → m ≤ 64 → (c : Bool) → finite rowCost ≡ c → (d : Bool) → finite columnCost ≡ d → Dec (length costs ≡ n * m) → Passed t
+      rows-ok hn hm false p d q z = absurd (never 9 t (takersReply costs n m rowCost columnCost) (row-cost-bad costs n m rowCost columnCost hn hm p) e)
+      rows-ok hn hm true p false q z = absurd (never 9 t (takersReply costs n m rowCost columnCost) (column-cost-bad costs n m rowCost columnCost hn hm p q) e)
+      rows-ok hn hm true p true q (no z) = absurd (never 10 t (takersReply costs n m rowCost columnCost) (size-bad costs n m rowCost columnCost hn hm p q z) e)
+      rows-ok hn hm true p true q (yes z) = record { rows-few = hn; columns-few = hm; size = z; is = sym (checked costs n m rowCost columnCost hn hm p q z) ∙ sym e }
+
+  -- each row and column once
+  pub once-all : (a : Pairs) → assignmentReply costs n m rowCost columnCost ≡ given a → Once n m a
+  unfolding assignmentReply
+  once-all a e = go (takersReply costs n m rowCost columnCost) refl e
+    where
+      go : (x : Reply (List (Option ℕ))) → takersReply costs n m rowCost columnCost ≡ x → bind (takersReply costs n m rowCost columnCost) (λ t. given (pairsOf n t)) ≡ given a → Once n m a
+      go (refused k) q w = let v : refused k ≡ given a = (unfold bind in (rw q at w)) in absurd (let z : _≡_ {A = ℕ} 0 1 = cc in omega arith)
+      go (given t) q w =
+          let v : given (pairsOf n t) ≡ given a = (unfold bind in (rw q at w)) in
+          let p = passed t (sym q) in
+          let S = pairing-sound costs n m (p .rows-few) (p .columns-few) (p .size) rowCost columnCost t (p .is) in
+          let z : pairsOf n t ≡ a = cc in
+          subst (Once n m) z (each-once t n (S .low) (S .inj) m (S .long))
+
+  pub answer-given : (t : List (Option ℕ)) (r : Assigned) → given t ≡ takersReply costs n m rowCost columnCost → r .outcome ≡ Given → r .assignment ≡ assignmentOf (pairsOf n t) → AssignmentAnswer n m (assignmentReply costs n m rowCost columnCost) r
   unfolding assignmentReply bind
   answer-given t r e o a =
       let w : given (pairsOf n t) ≡ assignmentReply costs n m rowCost columnCost = ap (λ (x : Reply (List (Option ℕ))). bind x (λ y. given (pairsOf n y))) e in
       record {
         is = ap₂ (λ (x : Outcome) (y : Assignment). replyOf x (pairsIn y)) o a ∙ ap given (holds (pairsOf n t)) ∙ w;
         whole = a ∙ ap assignmentFor w;
+        once = once-all;
       }
 
-  pub answer-refused : (k : ℕ) (r : Assigned) → refused k ≡ takersReply costs n m rowCost columnCost → ((p : Pairs) → replyOf (r .outcome) p ≡ refused k) → r .assignment ≡ assignmentOf (record { pairs = []; rows = []; columns = [] }) → AssignmentAnswer (assignmentReply costs n m rowCost columnCost) r
+  pub answer-refused : (k : ℕ) (r : Assigned) → refused k ≡ takersReply costs n m rowCost columnCost → ((p : Pairs) → replyOf (r .outcome) p ≡ refused k) → r .assignment ≡ assignmentOf (record { pairs = []; rows = []; columns = [] }) → AssignmentAnswer n m (assignmentReply costs n m rowCost columnCost) r
   unfolding assignmentReply bind
   answer-refused k r e o a =
       let w : refused k ≡ assignmentReply costs n m rowCost columnCost = ap (λ (x : Reply (List (Option ℕ))). bind x (λ y. given (pairsOf n y))) e in
-      record { is = o (pairsIn (r .assignment)) ∙ w; whole = a ∙ ap assignmentFor w }
+      record { is = o (pairsIn (r .assignment)) ∙ w; whole = a ∙ ap assignmentFor w; once = once-all }

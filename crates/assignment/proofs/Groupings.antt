@@ -68,13 +68,13 @@ any-in (true ∷ k) i e = refl
 any-in (false ∷ k) zero e = absurd (true≢false (sym e))
 any-in (false ∷ k) (suc i) e = any-in k i e
 
-any-out : (k : List Bool) → anyOf same k ≡ true → (i : ℕ) × (i < length k) × (getD k i false ≡ true)
+pub any-out : (k : List Bool) → anyOf same k ≡ true → (i : ℕ) × (i < length k) × (getD k i false ≡ true)
 unfolding anyOf
 any-out [] e = absurd (true≢false (sym e))
 any-out (true ∷ k) e = (0, omega arith, refl)
 any-out (false ∷ k) e = let r = any-out k e in let l = r .1 in (suc (r .0), omega arith, r .2)
 
-some-tick : (m : ℕ → Bool) (n : ℕ) → 0 < ticks m n → (i : ℕ) × (i < n) × (m i ≡ true)
+pub some-tick : (m : ℕ → Bool) (n : ℕ) → 0 < ticks m n → (i : ℕ) × (i < n) × (m i ≡ true)
 unfolding ticks
 some-tick m zero h = absurd (omega (arith, h))
 some-tick m (suc n) h = go (m n) refl (some-tick m n) h

@@ -10,3 +10,5 @@ pub mod Solving
 pub mod Calls
 pub mod Listings
 pub mod Answers
+pub mod Once
+pub mod EachOnce

@@ -1,11 +1,11 @@
 -- The answer's arrays: each list in front, zeros after it.
 use mathlib.Core.Path.{_≡_}
 use mathlib.Core.Bool.{cond}
-use mathlib.Core.List.{List, [], _++_, map}
+use mathlib.Core.List.{List, [], _∷_, _++_, map}
 use mathlib.Core.Option.{Option, none, some}
-use Prim.Native.Nat.{ℕ, zero, _+_, _-_, _≤_}
+use Prim.Native.Nat.{ℕ, zero, suc, _+_, _-_, _≤_}
 use lib.ListN.{length, take, replicate}
-use lib.Dec.{ltb}
+use lib.Dec.{eqb, ltb}
 use Rattle.number.specs.Reply.{Reply, refused, given}
 use Rattle.kuhn_munkres.specs.Strike.{zipped}
 use Rattle.kuhn_munkres.specs.Assignment.{Pair, Pairs, columnOf, pairsFrom, freeRows, freeColumns}
@@ -50,10 +50,29 @@ pairsIn a = record {
   columns = take (a .«unmatched_column_count») (a .«unmatched_columns»);
 }
 
--- The whole reply: 01's number or the pairs and lists; and every place of the arrays.
-pub record AssignmentAnswer (reply : Reply Pairs) (r : Assigned) : Type 0 where
+-- how often x stands in a list
+unfoldable pub times : ℕ → List ℕ → ℕ
+times x [] = 0
+times x (y ∷ l) = cond (eqb x y) 1 0 + times x l
+
+-- each one above the one before, and none below k
+unfoldable pub Ascending : ℕ → List ℕ → Type 0
+Ascending k [] = Unit {0}
+Ascending k (x ∷ l) = (k ≤ x) × Ascending (suc x) l
+
+-- 01, Assignment: "Each row and column stands in one pair or one unmatched list; lists ascend." There are n rows and m columns.
+pub record Once (n m : ℕ) (a : Pairs) : Type 0 where
+  pub rows-once : (i : ℕ) → times i (map rowOf (a .pairs)) + times i (a .rows) ≡ cond (ltb i n) 1 0
+  pub columns-once : (j : ℕ) → times j (map columnIn (a .pairs)) + times j (a .columns) ≡ cond (ltb j m) 1 0
+  pub pairs-ascend : Ascending 0 (map rowOf (a .pairs))
+  pub rows-ascend : Ascending 0 (a .rows)
+  pub columns-ascend : Ascending 0 (a .columns)
+
+-- The whole reply for n rows and m columns: 01's number or the pairs and lists; every place of the arrays; and each row and column once.
+pub record AssignmentAnswer (n m : ℕ) (reply : Reply Pairs) (r : Assigned) : Type 0 where
   pub is : replyOf (r .outcome) (pairsIn (r .assignment)) ≡ reply
   pub whole : r .assignment ≡ assignmentFor reply
+  pub once : (a : Pairs) → reply ≡ given a → Once n m a
 
 -- the column that row i takes is the r-th of m, or none where r is m
 pub record ColumnFound (takers : List (Option ℕ)) (m i r : ℕ) : Type 0 where

@@ -46,7 +46,7 @@ module _ (costs : List Float) (n m : ℕ) (rowCost columnCost : Float) where
     pub held : PairsHeld takers n (r .assignment .«pair_rows») (r .assignment .«pair_columns») (r .assignment .«pair_count»)
     pub count-few : r .assignment .«pair_count» ≤ 64
 
-  pub paired : (r : Assigned) → AssignmentAnswer reply r → r .outcome ≡ Given → Paired r
+  pub paired : (r : Assigned) → AssignmentAnswer n m reply r → r .outcome ≡ Given → Paired r
   unfolding pairsOf
   paired r w o =
       let g : given (pairsIn (r .assignment)) ≡ reply = told (r .outcome) Given (pairsIn (r .assignment)) reply o (w .is) in
@@ -71,7 +71,7 @@ module _ (costs : List Float) (n m : ℕ) (rowCost columnCost : Float) where
     unfolding matesReply
     enough h = rw (le-ltb (length before) n h)
 
-    pub call-refused : (k : ℕ) (r : Assigned) → n ≤ length before → AssignmentAnswer reply r → ((p : Pairs) → replyOf (r .outcome) p ≡ refused k) → AssignmentCall (matesReply costs n m rowCost columnCost (length before)) n k before before
+    pub call-refused : (k : ℕ) (r : Assigned) → n ≤ length before → AssignmentAnswer n m reply r → ((p : Pairs) → replyOf (r .outcome) p ≡ refused k) → AssignmentCall (matesReply costs n m rowCost columnCost (length before)) n k before before
     call-refused k r h w o =
         let e : matesReply costs n m rowCost columnCost (length before) ≡ refused k = enough h ∙ sym (w .is) ∙ o (pairsIn (r .assignment)) in
         rw e (record { code = refl; mates = refl })
