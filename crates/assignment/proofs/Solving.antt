@@ -21,7 +21,11 @@ use Rattle.kuhn_munkres.specs.Groups.{Labels, labels, isLabel}
 use Rattle.kuhn_munkres.specs.Assignment.{rowsOf, inOne, takerOf, takersIn, solved, squareOf, named, bind, groupIn, groups, same}
 use Rattle.kuhn_munkres.proofs.Kept.{AllFound, of-found, rows-long}
 use Rattle.kuhn_munkres.proofs.Labels.{rows-count}
-use Rattle.hungarian.specs.Ends.{matched, halts, loses, endOf, pickEnd}
+use Rattle.hungarian.specs.Ends.{endReply, runReply, replyOfRun}
+use Rattle.hungarian.specs.Structs.{squareFrom}
+use Rattle.hungarian.specs.declared.Run.{Run}
+use Rattle.hungarian.specs.declared.Shape.{Shape}
+use Rattle.hungarian.proofs.Replies.{checked}
 use Rattle.assignment.specs.Picks.{picked, ticks, bears, groupRow, groupTable, Gathered}
 use Rattle.assignment.specs.Taking.{takersOf, replyIf, ownReply, Call, Taken, GroupTaken, AllTaken}
 use Rattle.assignment.proofs.Picking.{picked-long, ticks-le}
@@ -33,20 +37,29 @@ pub record Ended (x : Search Float) (p : List ℕ) : Type 0 where
   pub is : x ≡ found s
   pub rows-are : s .p ≡ p
 
-ended : (x : Search Float) (status : ℕ) (p : List ℕ) → status ≡ 0 → pickEnd status p ≡ endOf x → Ended x p
-ended (found s) status p z e = let q : matched p ≡ matched (s .p) = rw z at e in record { s = s; is = refl; rows-are = cc }
-ended stopped status p z e = let q : matched p ≡ halts = rw z at e in let w : _≡_ {A = ℕ} 0 1 = cc in absurd (omega arith)
-ended spent status p z e = let q : matched p ≡ loses = rw z at e in let w : _≡_ {A = ℕ} 0 1 = cc in absurd (omega arith)
+ended : (x : Search Float) (p : List ℕ) → given p ≡ endReply x → Ended x p
+unfolding endReply
+ended (found s) p e = record { s = s; is = refl; rows-are = cc }
+ended stopped p e = let w : _≡_ {A = ℕ} 0 1 = cc in absurd (omega arith)
+ended spent p e = let w : _≡_ {A = ℕ} 0 1 = cc in absurd (omega arith)
 
-failed : (q : Square Float) (x : Search Float) (status : ℕ) (p : List ℕ) → (status ≡ 0 → ⊥) → pickEnd status p ≡ endOf x → takersIn q x ≡ refused 10
-unfolding takersIn
-failed q x zero p f e = absurd (f refl)
-failed q (found s) (suc zero) p f e = let w : _≡_ {A = ℕ} 0 1 = cc in absurd (omega arith)
-failed q stopped (suc zero) p f e = refl
-failed q spent (suc zero) p f e = refl
-failed q (found s) (suc (suc k)) p f e = let w : _≡_ {A = ℕ} 0 1 = cc in absurd (omega arith)
-failed q stopped (suc (suc k)) p f e = refl
-failed q spent (suc (suc k)) p f e = refl
+failed : (q : Square Float) (x : Search Float) → refused 10 ≡ endReply x → takersIn q x ≡ refused 10
+unfolding takersIn endReply
+failed q (found s) e = let w : _≡_ {A = ℕ} 0 1 = cc in absurd (omega arith)
+failed q stopped e = refl
+failed q spent e = refl
+
+-- the square is small, so that it is not refused for its size
+pub not-eleven : (x : Search Float) → refused 11 ≡ endReply x → ⊥
+unfolding endReply
+not-eleven (found s) e = let w : _≡_ {A = ℕ} 0 1 = cc in omega arith
+not-eleven stopped e = let w : _≡_ {A = ℕ} 11 10 = cc in omega arith
+not-eleven spent e = let w : _≡_ {A = ℕ} 11 10 = cc in omega arith
+
+-- a run whose size is right ends as the steps do
+pub run-is : (costs : List Float) (q : Shape) → q .rows ≤ 64 → q .cols ≤ 64 → length costs ≡ q .rows * q .cols → (r r' : Run) (p : List ℕ) → r ≡ r' → replyOfRun r p ≡ runReply costs q
+    → replyOfRun r' p ≡ endReply (rows float (entry float (squareFrom costs q)) (q .rows + q .cols) (q .rows + q .cols))
+run-is costs q hr hc size r r' p e w = ap (λ (x : Run). replyOfRun x p) (sym e) ∙ w ∙ checked costs q hr hc size
 
 module _ (costs : List Float) (n m : ℕ) (rowNames columnNames : List ℕ) (far rowCost columnCost : Float) (C : Call costs n m rowNames columnNames) (g : ℕ) (hg : g < n) where
   abbrev R : List (List Float)
@@ -114,14 +127,14 @@ module _ (costs : List Float) (n m : ℕ) (rowNames columnNames : List ℕ) (far
     unfolding groupIn
     group-is t = ap (λ (b : Bool). groupIn dense b R (upFrom zero R) rm cm t) any ∙ ap (λ (y : Reply (List (Option ℕ))). bind y (λ o. given (spread cm (map (named (strike rm (upFrom zero R))) o) t))) dense-is
 
-    pub group-failed : (before : List ℕ) (status : ℕ) (p : List ℕ) → length before ≡ 64 → (status ≡ 0 → ⊥) → pickEnd status p ≡ endOf X → GroupTaken costs n m far rowCost columnCost g false before before
+    pub group-failed : (before : List ℕ) → length before ≡ 64 → refused 10 ≡ endReply X → GroupTaken costs n m far rowCost columnCost g false before before
     unfolding bind
-    group-failed before status p l f e = record { long = l; is = sym (group-is (takersOf m before) ∙ ap (λ (y : Reply (List (Option ℕ))). bind y (λ o. given (spread cm (map (named (strike rm (upFrom zero R))) o) (takersOf m before)))) (failed Q X status p f e)) }
+    group-failed before l e = record { long = l; is = sym (group-is (takersOf m before) ∙ ap (λ (y : Reply (List (Option ℕ))). bind y (λ o. given (spread cm (map (named (strike rm (upFrom zero R))) o) (takersOf m before)))) (failed Q X e)) }
 
-    pub group-solved : (before after : List ℕ) (status : ℕ) (p : List ℕ) → length before ≡ 64 → status ≡ 0 → pickEnd status p ≡ endOf X → Taken columnNames g m p r members before after → GroupTaken costs n m far rowCost columnCost g true before after
+    pub group-solved : (before after : List ℕ) (p : List ℕ) → length before ≡ 64 → given p ≡ endReply X → Taken columnNames g m p r members before after → GroupTaken costs n m far rowCost columnCost g true before after
     unfolding bind takersIn
-    group-solved before after status p l z e t =
-        let d = ended X status p z e in
+    group-solved before after p l e t =
+        let d = ended X p e in
         let long : length p ≡ 129 = ap length (sym (d .rows-are)) ∙ of-found float (λ (y : State Float). length (y .p) ≡ 129) X (d .s) (d .is) (rows-long float (entry float Q) (r + c) (r + c)) in
         let w : takersIn Q X ≡ given (map (takerOf r) (take c (drop 1 p))) = ap (takersIn Q) (d .is) ∙ ap (λ (y : List ℕ). given (map (takerOf r) (take c (drop 1 y)))) (d .rows-are) in
         record {

@@ -7,7 +7,7 @@ ghost use Rattle.kuhn_munkres.specs.Square.{entry};
 ghost use Rattle.kuhn_munkres.specs.Steps.{rows};
 ghost use Rattle.kuhn_munkres.specs.Assignment.{rowsOf, pairing};
 ghost use Rattle.hungarian.specs.Structs.{squareFrom};
-ghost use Rattle.hungarian.specs.Ends.{endOf, pickEnd};
+ghost use Rattle.hungarian.specs.Ends.{endReply};
 ghost use Rattle.assignment.specs.Taking.{takerNumber, takersOf, replyIf, Taken, Call, GroupTaken, AllTaken};
 
 // The row of the whole table for the row t of a group's square, which has r rows of its own; rows of a square count from 1. 64 for a dummy.
@@ -52,13 +52,17 @@ pub struct Prices {
     pub column: f64,
 }
 
-// The steps on the table in the front of `own`.
-fn solve_front(own: &[f64], shape: hungarian::Shape, p: &mut [usize; 129]) -> usize
+// The steps on the table in the front of `own`; the rows of the columns into p. False for a step that is not finite.
+fn solve_front(own: &[f64], shape: hungarian::Shape, p: &mut [usize; 129]) -> bool
     requires { ⌜ (shape .rows ≤ 64) × (shape .cols ≤ 64) × (shape .rows * shape .cols ≤ length (now own)) ⌝ }
-    ensures { λ r. ⌜ pickEnd r (now (p .exit)) ≡ endOf (rows float (entry float (squareFrom (take (shape .rows * shape .cols) (now (own .entry))) shape)) (shape .rows + shape .cols) (shape .rows + shape .cols)) ⌝ }
+    ensures { λ ok. ⌜ replyIf ok (now (p .exit)) ≡ endReply (rows float (entry float (squareFrom (take (shape .rows * shape .cols) (now (own .entry))) shape)) (shape .rows + shape .cols) (shape .rows + shape .cols)) ⌝ }
 {
     let end = shape.rows * shape.cols;
-    hungarian::hungarian_square(&own[..end], shape, p)
+    match hungarian::solve(&own[..end], shape, p) {
+        hungarian::Run::Matched => true,
+        hungarian::Run::TooMany => false,
+        hungarian::Run::Failed => false,
+    }
 }
 
 // Group g, if there is one: its own table is solved, and its columns take their rows. False for a step that is not finite.
@@ -102,8 +106,7 @@ fn solve_group(
         row: prices.row,
         col: prices.column,
     };
-    let status = solve_front(own, shape, p);
-    if status != 0 {
+    if !solve_front(own, shape, p) {
         return false;
     }
     take_columns(column_names, columns, g, p, r, members, takers);

@@ -4,3 +4,4 @@ pub mod Entries
 pub mod Turn
 pub mod Path
 pub mod Rows
+pub mod Replies

@@ -1,13 +1,22 @@
 -- What a search for a free column and the whole run end with, from the code's arrays and status.
-use mathlib.Core.Bool.{Bool, false}
+use mathlib.Core.Path.{_≡_}
+use mathlib.Core.Bool.{Bool, false, not, _||_}
 use mathlib.Core.List.{List}
-use Prim.Native.Nat.{ℕ, zero, suc}
-use lib.ListN.{replicate}
+use Prim.Native.Nat.{ℕ, zero, suc, _+_, _*_}
+use lib.Dec.{eqb, ltb}
+use lib.ListN.{length, replicate}
 use lib.Ieee.{Float}
+use Rattle.number.specs.Reply.{Reply, refused, given}
+use Rattle.kuhn_munkres.specs.Assignment.{orElse}
 use Rattle.kuhn_munkres.specs.Binary64.{float}
-use Rattle.kuhn_munkres.specs.Steps.{State, Search, found, stopped, spent}
+use Rattle.kuhn_munkres.specs.Square.{entry}
+use Rattle.kuhn_munkres.specs.Steps.{State, Search, found, stopped, spent, rows}
 use Rattle.hungarian.specs.Passes.{Least}
+use Rattle.hungarian.specs.Structs.{squareFrom}
 use Rattle.hungarian.specs.declared.Met.{Met}
+use Rattle.hungarian.specs.declared.Run.{Run}
+use Rattle.hungarian.specs.declared.Run.the-variants.{Matched, TooMany, Failed}
+use Rattle.hungarian.specs.declared.Shape.{Shape}
 
 -- the definition's state of the code's arrays, with the definition's own minv
 abbrev pub st : {N : Type 0} → List N → List N → List N → List ℕ → List ℕ → List Bool → ℕ → Least N → State N
@@ -53,3 +62,31 @@ abbrev pub pickEnd : ℕ → List ℕ → End
 pickEnd zero p = matched p
 pickEnd (suc zero) p = halts
 pickEnd (suc (suc k)) p = loses
+
+-- ---- the call
+-- the row of each column, or 01's number: "10 .. a step not finite"
+unfoldable pub endReply : Search Float → Reply (List ℕ)
+endReply (found s) = given (s .p)
+endReply stopped = refused 10
+endReply spent = refused 10
+
+-- 01, Assignment (refusals): "11 over 64 rows or columns; .. 10 table length isn't rows × columns, or a step not finite"
+unfoldable pub runReply : List Float → Shape → Reply (List ℕ)
+runReply costs q =
+    orElse (ltb 64 (q .rows) || ltb 64 (q .cols)) 11
+    (orElse (not (eqb (length costs) (q .rows * q .cols))) 10
+    (endReply (rows float (entry float (squareFrom costs q)) (q .rows + q .cols) (q .rows + q .cols))))
+
+abbrev pub replyOfRun : {A : Type 0} → Run → A → Reply A
+replyOfRun Matched a = given a
+replyOfRun TooMany a = refused 11
+replyOfRun Failed a = refused 10
+
+-- 01: "A refusal answers its number and changes nothing lent or held."
+abbrev pub leftIn : {A : Type 0} → Reply A → A → A
+leftIn (refused n) before = before
+leftIn (given v) before = v
+
+pub record RunAnswer (costs : List Float) (q : Shape) (r : Run) (before after : List ℕ) : Type 0 where
+  pub is : replyOfRun r after ≡ runReply costs q
+  pub left : after ≡ leftIn (runReply costs q) before

@@ -12,7 +12,7 @@ ghost use Rattle.kuhn_munkres.specs.Square.{entry};
 ghost use Rattle.kuhn_munkres.specs.Steps.{search, back, rows};
 ghost use Rattle.hungarian.specs.Passes.{better, chosen, lowered, paid, two, pots, Evenly, Listed, Pays, QuietIf, FreeIf, relaxed};
 ghost use Rattle.hungarian.specs.Structs.{leastOf, squareFrom};
-ghost use Rattle.hungarian.specs.Ends.{begun, met, metOf, endOf, pickEnd};
+ghost use Rattle.hungarian.specs.Ends.{begun, met, metOf, endOf, pickEnd, RunAnswer};
 
 pub struct Shape {
     pub rows: usize,
@@ -353,7 +353,7 @@ fn walk_back(p: &mut [usize; 129], way: &[usize; 129], n: usize, j: usize)
 }
 
 // All rows, one after the other. 0 and the row of each column; 1 for a step that is not finite.
-pub fn hungarian_square(costs: &[f64], q: Shape, p: &mut [usize; 129]) -> usize
+fn hungarian_square(costs: &[f64], q: Shape, p: &mut [usize; 129]) -> usize
     requires { ⌜ (q .rows ≤ 64) × (q .cols ≤ 64) × (length (now costs) ≡ q .rows * q .cols) ⌝ }
     ensures { λ r. ⌜ pickEnd r (now (p .exit)) ≡ endOf (rows float (entry float (squareFrom (now (costs .entry)) q)) (q .rows + q .cols) (q .rows + q .cols)) ⌝ }
 {
@@ -371,4 +371,32 @@ pub fn hungarian_square(costs: &[f64], q: Shape, p: &mut [usize; 129]) -> usize
         walk_back(p, &way, n, m.j0);
     }
     0
+}
+
+// How a run ends: the rows of the columns are given; too many rows or columns; a table of another size, or a step that is not finite.
+pub enum Run {
+    Matched,
+    TooMany,
+    Failed,
+}
+
+// The row of each column of the padded square, both counted from 1, into p; p is left as it was where the call is declined.
+pub fn solve(costs: &[f64], q: Shape, p: &mut [usize; 129]) -> Run
+    ensures { λ r. ⌜ RunAnswer (now (costs .entry)) q r (now (p .entry)) (now (p .exit)) ⌝ }
+{
+    if q.rows > 64 {
+        return Run::TooMany;
+    }
+    if q.cols > 64 {
+        return Run::TooMany;
+    }
+    if costs.len() != q.rows * q.cols {
+        return Run::Failed;
+    }
+    let mut taken = [0usize; 129];
+    if hungarian_square(costs, q, &mut taken) != 0 {
+        return Run::Failed;
+    }
+    *p = taken;
+    Run::Matched
 }

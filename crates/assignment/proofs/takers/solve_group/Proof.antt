@@ -2,7 +2,7 @@ use borrow.Author.Needs.{needs}
 use native.Mathlib.Omega.{arith}
 use mathlib.Core.Path.{_≡_, refl, sym, ap, _∙_, subst}
 use Prim.Native.Nat.{ℕ, _+_, _-_, _*_, _≤_, _<_}
-use native.Mathlib.Nat.{mul-le-mul-right}
+use borrow.Author.Tests.{not-true, not-false}
 use lib.ListN.{length, getD, take}
 use Rattle.assignment.proofs.Solving.{group-unborne, group-empty, group-fits, group-failed, group-solved}
 use Rattle.assignment.proofs.takers.solve_group.Statement.{statement}
@@ -24,13 +24,13 @@ solve-front-requires : tie.Need-solve-front-requires
 solve-front-requires c κs = let s = c .before .before .before .before .before .before .before .before .before .before .before in let q = s .pre .0 in group-fits _ _ _ _ _ _ _ _ _ _ (q .rows-few) (q .columns-few) (c .before .before .before .gather .ensures) (c .before .before .before .before .before .before .before .count-named .ensures)
 
 returns-3 : tie.Need-returns-3
-returns-3 c = let s = c .before .before .before .before .before .before .before .before .before .before .before .before .before in let G = c .before .before .before .before .before .gather .ensures in (G .long, G .members-long, group-failed _ _ _ _ _ _ _ _ (s .pre .0) _ (s .pre .1) (c .before .before .before .before .before .before .before .before .before .before .if1 .left) _ (c .before .before .before .before .before .before .before .before .before .count-named .ensures) (c .before .before .before .before .before .before .before .before .if2 .left) _ _ _ G _ _ _ (s .pre .4) (c .if3 .taken) (c .before .solve-front .ensures))
+returns-3 c = let s = c .before .before .before .before .before .before .before .before .before .before .before .before .before in let G = c .before .before .before .before .before .gather .ensures in (G .long, G .members-long, group-failed _ _ _ _ _ _ _ _ (s .pre .0) _ (s .pre .1) (c .before .before .before .before .before .before .before .before .before .before .if1 .left) _ (c .before .before .before .before .before .before .before .before .before .count-named .ensures) (c .before .before .before .before .before .before .before .before .if2 .left) _ _ _ G _ (s .pre .4) (rw (not-true (c .before .solve-front .result) (c .if3 .taken)) at (c .before .solve-front .ensures)))
 
 take-columns-requires : tie.Need-take-columns-requires
 take-columns-requires c κs = let s = c .before .before .before .before .before .before .before .before .before .before .before .before .before .before .before .before in let q = s .pre .0 in (q .columns-few, group-fits _ _ _ _ _ _ _ _ _ _ (q .rows-few) (q .columns-few) (c .before .before .before .before .before .before .before .before .gather .ensures) (c .before .before .before .before .before .before .before .before .before .before .before .before .count-named .ensures) .0, s .pre .4)
 
 returns-4 : tie.Need-returns-4
-returns-4 c = let s = c .before .before .before .before .before .before .before .before .before .before .before .before .before .before .before .before .before in let G = c .before .before .before .before .before .before .before .before .before .gather .ensures in (G .long, G .members-long, group-solved _ _ _ _ _ _ _ _ (s .pre .0) _ (s .pre .1) (c .before .before .before .before .before .before .before .before .before .before .before .before .before .before .if1 .left) _ (c .before .before .before .before .before .before .before .before .before .before .before .before .before .count-named .ensures) (c .before .before .before .before .before .before .before .before .before .before .before .before .if2 .left) _ _ _ G _ _ _ _ (s .pre .4) (c .before .before .before .before .if3 .left) (c .before .before .before .before .before .solve-front .ensures) (c .take-columns .ensures))
+returns-4 c = let s = c .before .before .before .before .before .before .before .before .before .before .before .before .before .before .before .before .before in let G = c .before .before .before .before .before .before .before .before .before .gather .ensures in (G .long, G .members-long, group-solved _ _ _ _ _ _ _ _ (s .pre .0) _ (s .pre .1) (c .before .before .before .before .before .before .before .before .before .before .before .before .before .before .if1 .left) _ (c .before .before .before .before .before .before .before .before .before .before .before .before .before .count-named .ensures) (c .before .before .before .before .before .before .before .before .before .before .before .before .if2 .left) _ _ _ G _ _ _ (s .pre .4) (rw (not-false (c .before .before .before .before .before .solve-front .result) (c .before .before .before .before .if3 .left)) at (c .before .before .before .before .before .solve-front .ensures)) (c .take-columns .ensures))
 
 pub solve-group-spec : {M : Type 1} → statement M
 solve-group-spec =
