@@ -89,14 +89,14 @@ pub fn is_finite6(x: [f64; 6]) -> bool
 }
 
 // Whether all entries are finite.
-pub fn is_finite_2x2(a: [[f64; 2]; 2]) -> bool
+fn is_finite_2x2(a: [[f64; 2]; 2]) -> bool
     ensures { λ r. ⌜ r ≡ finiteMatrix 2 2 a ⌝ }
 {
     is_finite2(a[0]) & is_finite2(a[1])
 }
 
 // Whether all entries are finite.
-pub fn is_finite_3x3(a: [[f64; 3]; 3]) -> bool
+fn is_finite_3x3(a: [[f64; 3]; 3]) -> bool
     ensures { λ r. ⌜ r ≡ finiteMatrix 3 3 a ⌝ }
 {
     is_finite3(a[0]) & is_finite3(a[1]) & is_finite3(a[2])
@@ -174,7 +174,7 @@ fn skew2(a: [[f64; 2]; 2]) -> [[f64; 2]; 2]
 }
 
 // Whether a is symmetric within the two tolerances.
-pub fn is_symmetric2(a: [[f64; 2]; 2]) -> bool
+fn is_symmetric2(a: [[f64; 2]; 2]) -> bool
     ensures { λ r. ⌜ r ≡ isSymmetric 2 a ⌝ }
 {
     largest2(skew2(a)) <= SYMMETRY_ABS_TOL + SYMMETRY_REL_TOL * largest2(a)
@@ -218,7 +218,7 @@ fn skew3(a: [[f64; 3]; 3]) -> [[f64; 3]; 3]
 }
 
 // Whether a is symmetric within the two tolerances.
-pub fn is_symmetric3(a: [[f64; 3]; 3]) -> bool
+fn is_symmetric3(a: [[f64; 3]; 3]) -> bool
     ensures { λ r. ⌜ r ≡ isSymmetric 3 a ⌝ }
 {
     largest3(skew3(a)) <= SYMMETRY_ABS_TOL + SYMMETRY_REL_TOL * largest3(a)
@@ -282,7 +282,7 @@ fn skew6(a: [[f64; 6]; 6]) -> [[f64; 6]; 6]
 }
 
 // Whether a is symmetric within the two tolerances.
-pub fn is_symmetric6(a: [[f64; 6]; 6]) -> bool
+fn is_symmetric6(a: [[f64; 6]; 6]) -> bool
     ensures { λ r. ⌜ r ≡ isSymmetric 6 a ⌝ }
 {
     largest6(skew6(a)) <= SYMMETRY_ABS_TOL + SYMMETRY_REL_TOL * largest6(a)

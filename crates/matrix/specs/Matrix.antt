@@ -95,7 +95,3 @@ symmetrized n a = tabulate n (λ i. meanRow n a i)
 -- 1 where row and column are equal, else +0
 unfoldable pub identity : ℕ → Matrix
 identity n = tabulate n (λ i. tabulate n (λ j. cond (eqb i j) one nought))
-
--- 01, Filter: "I−KH", for a gain k of n by m and h of m by n
-unfoldable pub complement : ℕ → ℕ → Matrix → Matrix → Matrix
-complement n m k h = minus n n (identity n) (product n m n k h)

@@ -47,23 +47,24 @@ pub fn rows_6x6(v: [f64; 36]) -> [[f64; 6]; 6]
     ]
 }
 
-// The rows of a, one after the other.
-pub fn flat_3x3(a: [[f64; 3]; 3]) -> [f64; 9]
-    ensures { λ r. ⌜ r ≡ flatOf 3 3 a ⌝ }
+// The rows of s, one after the other.
+pub fn flat_3x3(s: [[f64; 3]; 3]) -> [f64; 9]
+    ensures { λ r. ⌜ r ≡ flatOf 3 3 s ⌝ }
 {
     [
-        a[0][0],
-        a[0][1],
-        a[0][2],
-        a[1][0],
-        a[1][1],
-        a[1][2],
-        a[2][0],
-        a[2][1],
-        a[2][2],
+        s[0][0],
+        s[0][1],
+        s[0][2],
+        s[1][0],
+        s[1][1],
+        s[1][2],
+        s[2][0],
+        s[2][1],
+        s[2][2],
     ]
 }
 
+// The rows of a, one after the other.
 pub fn flat_6x6(a: [[f64; 6]; 6]) -> [f64; 36]
     ensures { λ r. ⌜ r ≡ flatOf 6 6 a ⌝ }
 {

@@ -2,7 +2,7 @@
 ghost use mathlib.Core.Path.{_≡_};
 ghost use Prim.Native.Nat.{_<_};
 ghost use lib.Ieee.{binary64, add, mul};
-ghost use Rattle.matrix.specs.Matrix.{row, entry, half, plusVector, minusVector, plus, minus, meanRow, symmetrized, identity, complement};
+ghost use Rattle.matrix.specs.Matrix.{row, entry, half, plusVector, minusVector, plus, minus, meanRow, symmetrized, identity};
 
 // x + y.
 fn add2(x: [f64; 2], y: [f64; 2]) -> [f64; 2]

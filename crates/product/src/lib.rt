@@ -4,18 +4,18 @@ ghost use Prim.Native.Nat.{_<_};
 ghost use lib.Ieee.{binary64, mul};
 ghost use Rattle.matrix.specs.Matrix.{item, entry, sumOf, dot, rowTimes, product, timesVector, transposed, congruence};
 
-// x times y, two terms.
-fn dot2(x: [f64; 2], y: [f64; 2]) -> f64
-    ensures { λ r. ⌜ r ≡ dot 2 x y ⌝ }
+// a times b, two terms.
+fn dot2(a: [f64; 2], b: [f64; 2]) -> f64
+    ensures { λ r. ⌜ r ≡ dot 2 a b ⌝ }
 {
-    x[0] * y[0] + x[1] * y[1]
+    a[0] * b[0] + a[1] * b[1]
 }
 
-// x times y, three terms.
-pub fn dot3(x: [f64; 3], y: [f64; 3]) -> f64
-    ensures { λ r. ⌜ r ≡ dot 3 x y ⌝ }
+// u times v, three terms.
+pub fn dot3(u: [f64; 3], v: [f64; 3]) -> f64
+    ensures { λ r. ⌜ r ≡ dot 3 u v ⌝ }
 {
-    x[0] * y[0] + x[1] * y[1] + x[2] * y[2]
+    u[0] * v[0] + u[1] * v[1] + u[2] * v[2]
 }
 
 // x times y, six terms.
