@@ -11,11 +11,16 @@
 //   K: a filter of the state and covariance. P dt, density: a prediction. U: an update by the position. W two velocities and their deviation: an update by them. Each
 //     answers F and 0 or the refusal's number, then the filter in eleven lines V of four numbers, zeros after the last. D: the squared distance of the position; answers
 //     E, 0 and the distance, or the refusal's number.
+//   B four costs, by their bits: loaded behind those that are loaded. M count, cost: one cost so many times. Each answers nothing.
+//   H length, rows times 2^32 and columns, row cost and column cost by their bits: the assignment of the first costs; none is loaded then. Answers H, the
+//     refusal's number or 0, and how many pairs, rows and columns that are left there are; then lines of J and four of these: the pairs as row times 2^32 and
+//     column, the rows that are left, the columns that are left, and 2^64 - 1 where they have ended.
 mod filters;
 mod floats;
 mod line;
 mod lives;
 mod roots;
+mod tables;
 
 use filters::Filters;
 use lives::Lives;
@@ -35,7 +40,21 @@ fn is_filters(letter: u8) -> bool {
         || letter == b'D'
 }
 
-// Runs one line's call.
+// Whether a call is one on a table.
+fn is_tables(letter: u8) -> bool {
+    letter == b'B' || letter == b'M' || letter == b'H'
+}
+
+// Runs one line's call on a table; how many costs are loaded then.
+fn run_table(costs: &mut [f64; 4096], loaded: usize, l: &[u8; 70]) -> usize {
+    let first = line::number(l, 2);
+    let second = line::number(l, 19);
+    let third = line::number(l, 36);
+    let fourth = line::number(l, 53);
+    tables::run(costs, loaded, l[0], first, second, third, fourth)
+}
+
+// Runs one line's other call.
 fn run(state: State, l: &[u8; 70]) -> State {
     let lives = state.lives;
     let filters = state.filters;
@@ -65,10 +84,16 @@ fn main() {
         lives: lives::new(),
         filters: filters::new(),
     };
+    let mut costs = [0.0f64; 4096];
+    let mut loaded = 0usize;
     for _ in 0..1099511627776u64 {
         let mut l = [0u8; 70];
         if io::read_full(0, &mut l) < 70 {
             break;
+        }
+        if is_tables(l[0]) {
+            loaded = run_table(&mut costs, loaded, &l);
+            continue;
         }
         state = run(state, &l);
     }

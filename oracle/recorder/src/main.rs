@@ -4,6 +4,7 @@ mod filters;
 mod lives;
 mod root;
 mod sensors;
+mod tables;
 
 use std::path::Path;
 use std::process::ExitCode;
@@ -28,6 +29,7 @@ fn main() -> ExitCode {
     lives::record(&mut recording);
     sensors::record(&mut recording);
     filters::record(&mut recording);
+    tables::record(&mut recording);
     match write(&recording, Path::new(folder)) {
         Ok(()) => {
             let (calls, answers) = (recording.calls.len(), recording.answers.len());

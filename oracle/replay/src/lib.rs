@@ -5,6 +5,7 @@ mod line;
 pub mod lives;
 mod program;
 pub mod sensors;
+pub mod tables;
 
 pub use line::Line;
 pub use program::answers;
