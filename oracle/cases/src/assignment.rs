@@ -232,17 +232,21 @@ impl Case for AssignmentCase {
 /// The table without each of its rows and columns, where its length is as stated.
 pub(crate) fn smaller_tables(table: &Table) -> impl Iterator<Item = Table> + '_ {
     let as_stated = table.costs.len() == table.rows * table.columns;
-    let rows = (0..table.rows).map(|row| Table {
+    let (all_rows, all_columns) = match as_stated {
+        true => (table.rows, table.columns),
+        false => (0, 0),
+    };
+    let rows = (0..all_rows).map(|row| Table {
         rows: table.rows - 1,
         costs: kept(table, |i, _| i != row),
         ..table.clone()
     });
-    let columns = (0..table.columns).map(|column| Table {
+    let columns = (0..all_columns).map(|column| Table {
         columns: table.columns - 1,
         costs: kept(table, |_, j| j != column),
         ..table.clone()
     });
-    rows.chain(columns).filter(move |_| as_stated)
+    rows.chain(columns)
 }
 
 /// The costs at the rows and columns that are kept.
