@@ -94,6 +94,7 @@ pub struct Names {
     pub of_columns: [usize; 64],
 }
 
+// The groups of a table: union-find over its rows and columns, then each group's last row for its name.
 pub fn named_groups(costs: &[f64], rows: usize, columns: usize) -> Names
     requires { ⌜ (rows ≤ 64) × (columns ≤ 64) × (length (now costs) ≡ rows * columns) ⌝ }
     ensures { λ r. ⌜ NamedBy (labels finite (rowsOf rows columns (now (costs .entry))) columns) rows columns (r .«of_rows») (r .«of_columns») ⌝ }

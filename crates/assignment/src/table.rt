@@ -21,7 +21,7 @@ pub fn largest_finite(costs: &[f64], first: f64) -> f64
     m
 }
 
-// The cost of a forbidden pair, where m is the largest cost: above every pairing without one.
+// The cost that stands for a forbidden pair, far above m, the largest cost.
 pub fn sentinel(m: f64) -> f64
     ensures { λ r. ⌜ r ≡ sentinelOf m ⌝ }
 {
@@ -43,7 +43,7 @@ pub fn count_named(names: &[usize; 64], n: usize, g: usize) -> usize
     c
 }
 
-// The costs of one row in the columns of group g, laid at k; the row begins at `at`.
+// The costs of one row in the columns of group g, laid from `from` on, and where they end; the row begins at `at`.
 pub fn gather_row(
     costs: &[f64],
     at: usize,

@@ -3,14 +3,14 @@ use mathlib.Core.Path.{_≡_, refl, sym, ap, _∙_, subst}
 use mathlib.Core.Logic.{_⊎_, inl, inr}
 use mathlib.Core.Bool.{Bool, true, false, cond, true≢false}
 use mathlib.Core.List.{List}
-use Prim.Native.Nat.{ℕ, zero, suc, _+_, _≤_, _<_}
+use Prim.Native.Nat.{ℕ, zero, suc, _+_, _≤_, _<_, zero-le}
 use native.Mathlib.Decide.{ℕ-discrete}
 use native.Mathlib.Omega.{arith}
 use lib.Dec.{eqb}
-use lib.ListN.{getD, set, length, length-set}
+use lib.ListN.{getD, set, length, length-set, replicate}
 use lib.Seq.{getD-set-same, getD-set-other}
 use Rattle.kuhn_munkres.specs.Ops.{Ops}
-use Rattle.kuhn_munkres.specs.Steps.{State, Search, found, stopped, spent, relax, scan, shift, mark, look, go-on, step, turned, search}
+use Rattle.kuhn_munkres.specs.Steps.{State, Search, found, stopped, spent, relax, scan, shift, mark, look, go-on, step, turned, search, start, enter, leave, rows, size}
 use Rattle.kuhn_munkres.proofs.Places.{scan-kept, shift-kept}
 
 -- how many of the first k places are not marked
@@ -99,3 +99,37 @@ module _ {N : Type 0} (O : Ops N) where
         go true q false r (inr w) ih =
             let c' = unmarked-set (s .used) (s .j0) (n + 1) (omega arith) (omega arith) f in
             ih (rw j0-x (w .1)) (rw (used-x, j0-x) (w .2)) (rw (used-x, length-set) l) (rw used-x (omega arith)) r
+
+    -- a square of n is smaller than the code's arrays
+    module _ (fits : n < size) where
+      unmarked-le : (l : List Bool) (k : ℕ) → unmarked l k ≤ k
+      unfolding unmarked
+      unmarked-le l zero = omega arith
+      unmarked-le l (suc k) = go (getD l k false) (unmarked-le l k)
+        where
+          go : (b : Bool) → unmarked l k ≤ k → cond b 0 1 + unmarked l k ≤ suc k
+          go true h = omega arith
+          go false h = omega arith
+
+      unused : (m j : ℕ) → getD (replicate m false) j false ≡ false
+      unused zero j = refl
+      unused (suc m) zero = refl
+      unused (suc m) (suc j) = unused m j
+
+      start-ends : (i : ℕ) (s : State N) → search O a n (n + 1) (start O i s) ≡ spent → ⊥
+      start-ends i s e = never-spent (n + 1) (start O i s) (unfold start in zero-le) (unfold start in unused size 0) (unfold start in fits) (unmarked-le ((start O i s) .used) (n + 1)) e
+
+      pub rows-end : (k : ℕ) → rows O a n k ≡ spent → ⊥
+      unfolding rows
+      rows-end zero e = let z : _≡_ {A = ℕ} 0 1 = cc in omega arith
+      rows-end (suc k) e = go (rows O a n k) refl (rows-end k) e
+        where
+          left : (x : Search N) → (x ≡ spent → ⊥) → leave O n x ≡ spent → ⊥
+          left (found y) h w = unfold leave in (let z : _≡_ {A = ℕ} 0 1 = cc in omega arith)
+          left stopped h w = unfold leave in (let z : _≡_ {A = ℕ} 0 1 = cc in omega arith)
+          left spent h w = h refl
+
+          go : (x : Search N) → rows O a n k ≡ x → (rows O a n k ≡ spent → ⊥) → leave O n (enter O a n (k + 1) (rows O a n k)) ≡ spent → ⊥
+          go (found s) q h w = left (enter O a n (k + 1) (found s)) (λ v. start-ends (k + 1) s (unfold enter in v)) (rw q at w)
+          go stopped q h w = left stopped (λ v. let z : _≡_ {A = ℕ} 0 1 = cc in omega arith) (unfold enter in (rw q at w))
+          go spent q h w = h q

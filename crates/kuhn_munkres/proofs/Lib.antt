@@ -6,3 +6,4 @@ pub mod Examples
 pub mod Labels
 pub mod Kept
 pub mod Matched
+pub mod FarColumns

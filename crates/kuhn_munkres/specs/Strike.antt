@@ -1,5 +1,7 @@
 -- Masks: which elements of a list stay, and what is put back at those that stayed.
 use mathlib.Core.List.{List, [], _∷_}
+use mathlib.Core.Path.{_≡_}
+use mathlib.Core.Option.{Option, none}
 use mathlib.Core.Bool.{Bool, true, false, _||_}
 use Prim.Native.Nat.{ℕ, zero, suc}
 
@@ -17,6 +19,22 @@ module _ {A : Type 0} where
   spread (true ∷ m) [] (o ∷ t) = o ∷ spread m [] t
   spread (true ∷ m) (x ∷ l) (o ∷ t) = x ∷ spread m l t
   spread (false ∷ m) l (o ∷ t) = o ∷ spread m l t
+
+  -- the mask is as long as the list, and R holds of each one that it strikes
+  unfoldable pub Struck : (A → Type 0) → List Bool → List A → Type 0
+  Struck R [] [] = Unit {0}
+  Struck R [] (x ∷ l) = ⊥
+  Struck R (b ∷ k) [] = ⊥
+  Struck R (true ∷ k) (x ∷ l) = Struck R k l
+  Struck R (false ∷ k) (x ∷ l) = R x × Struck R k l
+
+  abbrev pub Absent : Option A → Type 0
+  Absent o = o ≡ none
+
+  -- R holds of every one
+  unfoldable pub Every : (A → Type 0) → List A → Type 0
+  Every R [] = Unit {0}
+  Every R (x ∷ l) = R x × Every R l
 
 -- how many stay
 unfoldable pub count : List Bool → ℕ
