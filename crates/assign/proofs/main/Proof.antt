@@ -1,0 +1,42 @@
+use borrow.Author.Needs.{needs}
+use mathlib.Core.Path.{sym}
+use lib.Seq.{length-take-le}
+use Rattle.assign.proofs.Fits.{wrote-fits}
+use Rattle.assign.proofs.main.Statement.{statement}
+use Rattle.assign.proofs.main.Tie as tie
+
+slice-aggregate-read-full : tie.Need-slice-aggregate-read-full
+slice-aggregate-read-full c = search needs
+
+read-full-requires : tie.Need-read-full-requires
+read-full-requires c κs = search needs
+
+drain-requires : tie.Need-drain-requires
+drain-requires c κs = search needs
+
+array-share-prefix-input : tie.Need-array-share-prefix-input
+array-share-prefix-input c = search needs
+
+slice-aggregate-answer : tie.Need-slice-aggregate-answer
+slice-aggregate-answer c = search needs
+
+slice-aggregate-answer-2 : tie.Need-slice-aggregate-answer-2
+slice-aggregate-answer-2 c = search needs
+
+answer-requires : tie.Need-answer-requires
+answer-requires c κs = search needs
+
+array-share-prefix-output : tie.Need-array-share-prefix-output
+array-share-prefix-output c = wrote-fits (c .before .answer .ensures)
+
+slice-aggregate-write-all : tie.Need-slice-aggregate-write-all
+slice-aggregate-write-all c = sym (length-take-le _ _ (wrote-fits (c .before .before .answer .ensures)))
+
+write-all-requires : tie.Need-write-all-requires
+write-all-requires c κs = search needs
+
+returns : tie.Need-returns
+returns c = search needs
+
+pub main-spec : {M : Type 1} → statement M
+main-spec = tie.close (tie.spec slice-aggregate-read-full read-full-requires drain-requires array-share-prefix-input slice-aggregate-answer slice-aggregate-answer-2 answer-requires array-share-prefix-output slice-aggregate-write-all write-all-requires returns)

@@ -1,0 +1,178 @@
+-- The whole line: its shape, what is decided, and what is written.
+use mathlib.Core.Path.{_≡_, refl, ap, sym, _∙_}
+use mathlib.Core.Bool.{Bool, true, false, cond, not, _&&_, _||_}
+use mathlib.Core.Option.{Option, none, some}
+use mathlib.Core.List.{List, [], _∷_, _++_}
+use Prim.Native.Nat.{ℕ, zero, suc, _+_, _-_, _*_, _<_, _≤_}
+use native.Mathlib.Numerals.{add-one}
+use native.Mathlib.Omega.{arith}
+use native.Mathlib.Nat.{suc-mul, zero-mul, mul-le-mul-right, mul-le-mul-left}
+use borrow.Author.Tests.{eq-eqb, ne-eqb, lt-ltb, le-ltb, eqb-true}
+use lib.Dec.{eqb, ltb}
+use lib.ListN.{length, take, drop, getD, length-append, length-drop}
+use lib.Seq.{drop-cons}
+use lib.Ieee.{Float, binary64, ofBits}
+use Rattle.number.specs.Reply.{Reply, refused, given}
+use Rattle.kuhn_munkres.specs.Assignment.{Pairs, inOne, orElse, assignmentReply}
+use Rattle.assignment.specs.Listing.{AssignmentAnswer, pairsIn}
+use Rattle.assignment.specs.Replies.{replyOf}
+use Rattle.assignment.specs.declared.Assigned.{Assigned}
+use Rattle.assignment.specs.declared.Outcome.{Outcome}
+use Rattle.assignment.specs.declared.Outcome.the-variants.{Given, TooMany, NonFinite, Failed}
+use Rattle.forms.specs.Shape.{formOf, readOf}
+use Rattle.forms.proofs.Shapes.{read-next, read-refused, drop-all}
+use Rattle.forms.specs.declared.Read.the-variants.{Next, Refused}
+use Rattle.line.specs.Request.{Request, Sizes, requestOf, shaped, even}
+use Rattle.line.specs.Asking.{askedOf, AskedRead}
+use Rattle.line.specs.declared.ask.Asked.the-variants.{Table, NoRequest}
+use Rattle.line.specs.Text.{refusedText, answerText, textOf}
+use Rattle.line.specs.Line.{whole, formed, decided, replyTo, answerOf, answerIn}
+
+-- ---- the shape
+module _ (s : List ℕ) where
+  pub formed-long : 16384 < length s → false ≡ formed s
+  unfolding formed
+  formed-long h = rw (lt-ltb 16384 (length s) h)
+
+  module _ (h : length s ≤ 16384) where
+    formed-is : formed s ≡ whole (formOf 4 s)
+    unfolding formed
+    formed-is = rw (le-ltb 16384 (length s) h)
+
+    pub formed-none : Refused ≡ readOf s (formOf 4 (drop 0 s)) → false ≡ formed s
+    unfolding whole
+    formed-none g = rw (formed-is, read-refused s 0 4 g)
+
+    module _ (e : ℕ) (g : Next e ≡ readOf s (formOf 4 (drop 0 s))) where
+      found : formOf 4 s ≡ some (drop e s)
+      found = read-next s 0 4 e g .left
+
+      pub formed-ends : length s ≤ e → false ≡ formed s
+      unfolding whole
+      formed-ends k = rw (formed-is, found, drop-all s e k)
+
+      pub formed-more : (length s - e ≡ 1 → ⊥) → false ≡ formed s
+      unfolding whole
+      formed-more f = rw (formed-is, found) (go (drop e s) (λ k. f (sym (length-drop e s) ∙ k)))
+        where
+          go : (l : List ℕ) → (length l ≡ 1 → ⊥) → false ≡ whole (some l)
+          go [] f = refl
+          go (b ∷ []) f = absurd (f refl)
+          go (b ∷ c ∷ l) f = refl
+
+      pub formed-last : length s - e ≡ 1 → eqb (getD s e 0) 10 ≡ formed s
+      unfolding whole
+      formed-last k =
+          let a : drop e s ≡ getD s e 0 ∷ drop (e + 1) s = rw (add-one) (drop-cons s e 0 (omega arith)) in
+          let b : drop (e + 1) s ≡ [] = drop-all s (e + 1) (omega arith) in
+          rw (formed-is, found, a, b)
+
+-- ---- the pairing
+pub mul-few : (r c : ℕ) → r ≤ 64 → c ≤ 64 → r * c ≤ 4096
+mul-few r c h g = let a : r * c ≤ 64 * c = mul-le-mul-right c h in omega arith
+
+module _ (reply : Reply Pairs) (r : Assigned) (a : AssignmentAnswer reply r) where
+  pub reply-given : r .outcome ≡ Given → answerText (pairsIn (r .assignment)) ≡ textOf reply
+  unfolding textOf
+  reply-given e = rw (← a .is, e)
+
+  pub reply-many : r .outcome ≡ TooMany → refusedText 11 ≡ textOf reply
+  unfolding textOf
+  reply-many e = rw (← a .is, e)
+
+  pub reply-endless : r .outcome ≡ NonFinite → refusedText 9 ≡ textOf reply
+  unfolding textOf
+  reply-endless e = rw (← a .is, e)
+
+  pub reply-failed : r .outcome ≡ Failed → refusedText 10 ≡ textOf reply
+  unfolding textOf
+  reply-failed e = rw (← a .is, e)
+
+-- ---- what is asked
+pub record AskedGot (read : Option Request) (r c : ℕ) (k : Float) (b : Bool) : Type 0 where
+  pub asked : Request
+  pub is : read ≡ some asked
+  pub rows-are : r ≡ asked .sizes .rows
+  pub columns-are : c ≡ asked .sizes .columns
+  pub cost-is : k ≡ asked .sizes .cost
+  pub shaped-is : b ≡ shaped asked
+
+pub asked-got : (read : Option Request) (r c : ℕ) (k : Float) (b : Bool) → Table r c k b ≡ askedOf read → AskedGot read r c k b
+asked-got none r c k b h = absurd (let z : _≡_ {A = ℕ} 0 1 = cc in omega arith)
+asked-got (some q) r c k b h = record { asked = q; is = refl; rows-are = cc; columns-are = cc; cost-is = cc; shaped-is = cc }
+
+pub nothing-asked : (read : Option Request) → NoRequest ≡ askedOf read → refusedText 13 ≡ textOf (decided read)
+unfolding decided textOf
+nothing-asked none h = refl
+nothing-asked (some q) h = absurd (let z : _≡_ {A = ℕ} 0 1 = cc in omega arith)
+
+-- rows of w make so many costs
+even-size : (w : ℕ) (t : List (List Float)) → even w t ≡ true → length (inOne t) ≡ length t * w
+unfolding even inOne
+even-size w [] h = sym (zero-mul w)
+even-size w (r ∷ t) h = go (eqb (length r) w) refl (even-size w t) h
+  where
+    go : (b : Bool) → eqb (length r) w ≡ b → (even w t ≡ true → length (inOne t) ≡ length t * w) → b && even w t ≡ true → length (r ++ inOne t) ≡ suc (length t) * w
+    go true q f g =
+        let u : length r ≡ w = eqb-true _ _ q in
+        let v : length (inOne t) ≡ length t * w = f g in
+        let d : suc (length t) * w ≡ length t * w + w = suc-mul (length t) w in
+        let a : length (r ++ inOne t) ≡ length r + length (inOne t) = length-append r (inOne t) in
+        omega arith
+    go false q f g = absurd (let z : _≡_ {A = ℕ} 0 1 = cc in omega arith)
+
+module _ (read : Option Request) (r c : ℕ) (k : Float) (b : Bool) (g : AskedGot read r c k b) where
+  pub decided-rows : 64 < r → refusedText 11 ≡ textOf (decided read)
+  unfolding decided textOf
+  decided-rows h = rw (g .is, lt-ltb 64 (g .asked .sizes .rows) (rw (g .rows-are) at h))
+
+  module _ (h : r ≤ 64) where
+    few-rows : ltb 64 (g .asked .sizes .rows) ≡ false
+    few-rows = le-ltb 64 (g .asked .sizes .rows) (rw (g .rows-are) at h)
+
+    pub decided-columns : 64 < c → refusedText 11 ≡ textOf (decided read)
+    unfolding decided textOf
+    decided-columns e = rw (g .is, few-rows, lt-ltb 64 (g .asked .sizes .columns) (rw (g .columns-are) at e))
+
+    module _ (e : c ≤ 64) where
+      few-columns : ltb 64 (g .asked .sizes .columns) ≡ false
+      few-columns = le-ltb 64 (g .asked .sizes .columns) (rw (g .columns-are) at e)
+
+      pub decided-shape : b ≡ false → refusedText 10 ≡ textOf (decided read)
+      unfolding decided textOf
+      decided-shape q = let u : shaped (g .asked) ≡ false = sym (g .shaped-is) ∙ q in rw (g .is, few-rows, few-columns, u)
+
+      module _ (q : b ≡ true) (o : List Float) (m : r * c ≤ 4096) (a : AskedRead read (Table r c k b) o) where
+        shape : shaped (g .asked) ≡ true
+        shape = sym (g .shaped-is) ∙ q
+
+        size : length (inOne (g .asked .table)) ≡ r * c
+        size = go (eqb (length (g .asked .table)) (g .asked .sizes .rows)) refl shape
+          where
+            go : (x : Bool) → eqb (length (g .asked .table)) (g .asked .sizes .rows) ≡ x → x && even (g .asked .sizes .columns) (g .asked .table) ≡ true → length (inOne (g .asked .table)) ≡ r * c
+            go true u v =
+                even-size (g .asked .sizes .columns) (g .asked .table) v
+                ∙ ap (λ (n : ℕ). n * g .asked .sizes .columns) (eqb-true _ _ u ∙ sym (g .rows-are))
+                ∙ ap (λ (n : ℕ). r * n) (sym (g .columns-are))
+            go false u v = absurd (let z : _≡_ {A = ℕ} 0 1 = cc in omega arith)
+
+        costs-are : take (r * c) o ≡ inOne (g .asked .table)
+        costs-are = rw size at (a .holds (g .asked) (g .is) (rw size m))
+
+        pub decided-all : textOf (assignmentReply (take (r * c) o) r c k (ofBits binary64 0)) ≡ textOf (decided read)
+        unfolding decided
+        decided-all = rw (g .is, few-rows, few-columns, shape, costs-are, g .rows-are, g .columns-are, g .cost-is)
+
+-- ---- the answer
+module _ (n : ℕ) (l : List ℕ) where
+  pub no-room : n < 1024 → [] ≡ answerIn n l
+  unfolding answerIn
+  no-room h = rw (lt-ltb n 1024 h)
+
+  pub not-formed : 1024 ≤ n → formed l ≡ false → refusedText 13 ≡ answerIn n l
+  unfolding answerIn answerOf replyTo textOf
+  not-formed h e = rw (le-ltb n 1024 h, e)
+
+  pub by-request : 1024 ≤ n → formed l ≡ true → textOf (decided (requestOf l)) ≡ answerIn n l
+  unfolding answerIn answerOf replyTo
+  by-request h e = rw (le-ltb n 1024 h, e)

@@ -1,0 +1,5 @@
+pub mod Listed
+pub mod Request
+pub mod Asking
+pub mod Text
+pub mod Line

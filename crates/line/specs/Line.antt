@@ -1,0 +1,43 @@
+-- The whole line, from bytes to bytes.
+use mathlib.Core.Bool.{Bool, true, false, cond, not, _&&_, _||_}
+use mathlib.Core.Option.{Option, none, some}
+use mathlib.Core.List.{List, [], _∷_}
+use Prim.Native.Nat.{ℕ}
+use lib.Dec.{eqb, ltb}
+use lib.ListN.{length}
+use lib.Ieee.{binary64, ofBits}
+use Rattle.number.specs.Reply.{Reply, refused, given}
+use Rattle.kuhn_munkres.specs.Assignment.{Pairs, inOne, orElse, assignmentReply}
+use Rattle.forms.specs.Shape.{formOf}
+use Rattle.line.specs.Request.{Request, requestOf, shaped}
+use Rattle.line.specs.Text.{textOf}
+
+-- a form, a newline and no more
+unfoldable pub whole : Option (List ℕ) → Bool
+whole none = false
+whole (some []) = false
+whole (some (b ∷ [])) = eqb b 10
+whole (some (b ∷ c ∷ l)) = false
+
+-- 01: "13 for another shape, .. over 16,384 bytes with the newline, no newline, or bytes after it"; "A form is .. at most 4 deep"
+unfoldable pub formed : List ℕ → Bool
+formed l = cond (ltb 16384 (length l)) false (whole (formOf 4 l))
+
+-- 01: "13 for another shape, a number out of range ..; then 11; then 10 unless the table has the stated rows, each of the stated columns." "Column cost is 0."
+unfoldable pub decided : Option Request → Reply Pairs
+decided none = refused 13
+decided (some q) =
+    orElse (ltb 64 (q .sizes .rows) || ltb 64 (q .sizes .columns)) 11
+    (orElse (not (shaped q)) 10
+    (assignmentReply (inOne (q .table)) (q .sizes .rows) (q .sizes .columns) (q .sizes .cost) (ofBits binary64 0)))
+
+unfoldable pub replyTo : List ℕ → Reply Pairs
+replyTo l = orElse (not (formed l)) 13 (decided (requestOf l))
+
+-- what the program writes for the bytes it reads
+unfoldable pub answerOf : List ℕ → List ℕ
+answerOf l = textOf (replyTo l)
+
+-- the same where there is room for n bytes: no answer has more than 1,024, and less room gets nothing
+unfoldable pub answerIn : ℕ → List ℕ → List ℕ
+answerIn n l = cond (ltb n 1024) [] (answerOf l)
