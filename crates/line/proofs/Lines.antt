@@ -22,11 +22,12 @@ use Rattle.assignment.specs.declared.Outcome.the-variants.{Given, TooMany, NonF
 use Rattle.forms.specs.Shape.{formOf, readOf}
 use Rattle.forms.proofs.Shapes.{read-next, read-refused, drop-all}
 use Rattle.forms.specs.declared.Read.the-variants.{Next, Refused}
-use Rattle.line.specs.Request.{Request, Sizes, requestOf, shaped, even}
-use Rattle.line.specs.Asking.{askedOf, AskedRead}
-use Rattle.line.specs.declared.ask.Asked.the-variants.{Table, NoRequest}
-use Rattle.line.specs.Text.{refusedText, answerText, textOf}
-use Rattle.line.specs.Line.{whole, formed, decided, replyTo, answerOf, answerIn}
+use Rattle.request.specs.Request.{Request, Sizes, requestOf, shaped, even}
+use Rattle.request.specs.Asking.{askedOf, noCosts, costsOf}
+use Rattle.request.proofs.Asks.{over-front}
+use Rattle.request.specs.declared.Asked.the-variants.{Table, NoRequest}
+use Rattle.text.specs.Text.{refusedText, answerText, textOf}
+use Rattle.line.specs.Line.{whole, formed, decided, replyTo, answerOf}
 
 -- ---- the shape
 module _ (s : List ℕ) where
@@ -142,7 +143,7 @@ module _ (read : Option Request) (r c : ℕ) (k : Float) (b : Bool) (g : AskedGo
       unfolding decided textOf
       decided-shape q = let u : shaped (g .asked) ≡ false = sym (g .shaped-is) ∙ q in rw (g .is, few-rows, few-columns, u)
 
-      module _ (q : b ≡ true) (o : List Float) (m : r * c ≤ 4096) (a : AskedRead read (Table r c k b) o) where
+      module _ (q : b ≡ true) (o : List Float) (m : r * c ≤ 4096) (a : o ≡ costsOf read) where
         shape : shaped (g .asked) ≡ true
         shape = sym (g .shaped-is) ∙ q
 
@@ -157,22 +158,18 @@ module _ (read : Option Request) (r c : ℕ) (k : Float) (b : Bool) (g : AskedGo
             go false u v = absurd (let z : _≡_ {A = ℕ} 0 1 = cc in omega arith)
 
         costs-are : take (r * c) o ≡ inOne (g .asked .table)
-        costs-are = rw size at (a .holds (g .asked) (g .is) (rw size m))
+        costs-are = rw (a, g .is, ← size) (over-front (inOne (g .asked .table)) noCosts (rw size m))
 
         pub decided-all : textOf (assignmentReply (take (r * c) o) r c k (ofBits binary64 0)) ≡ textOf (decided read)
         unfolding decided
         decided-all = rw (g .is, few-rows, few-columns, shape, costs-are, g .rows-are, g .columns-are, g .cost-is)
 
 -- ---- the answer
-module _ (n : ℕ) (l : List ℕ) where
-  pub no-room : n < 1024 → [] ≡ answerIn n l
-  unfolding answerIn
-  no-room h = rw (lt-ltb n 1024 h)
+module _ (l : List ℕ) where
+  pub not-formed : formed l ≡ false → refusedText 13 ≡ answerOf l
+  unfolding answerOf replyTo textOf
+  not-formed e = rw e
 
-  pub not-formed : 1024 ≤ n → formed l ≡ false → refusedText 13 ≡ answerIn n l
-  unfolding answerIn answerOf replyTo textOf
-  not-formed h e = rw (le-ltb n 1024 h, e)
-
-  pub by-request : 1024 ≤ n → formed l ≡ true → textOf (decided (requestOf l)) ≡ answerIn n l
-  unfolding answerIn answerOf replyTo
-  by-request h e = rw (le-ltb n 1024 h, e)
+  pub by-request : formed l ≡ true → textOf (decided (requestOf l)) ≡ answerOf l
+  unfolding answerOf replyTo
+  by-request e = rw e

@@ -9,8 +9,8 @@ use lib.Ieee.{binary64, ofBits}
 use Rattle.number.specs.Reply.{Reply, refused, given}
 use Rattle.kuhn_munkres.specs.Assignment.{Pairs, inOne, orElse, assignmentReply}
 use Rattle.forms.specs.Shape.{formOf}
-use Rattle.line.specs.Request.{Request, requestOf, shaped}
-use Rattle.line.specs.Text.{textOf}
+use Rattle.request.specs.Request.{Request, requestOf, shaped}
+use Rattle.text.specs.Text.{textOf}
 
 -- a form, a newline and no more
 unfoldable pub whole : Option (List ℕ) → Bool
@@ -37,7 +37,3 @@ replyTo l = orElse (not (formed l)) 13 (decided (requestOf l))
 -- what the program writes for the bytes it reads
 unfoldable pub answerOf : List ℕ → List ℕ
 answerOf l = textOf (replyTo l)
-
--- the same where there is room for n bytes: no answer has more than 1,024, and less room gets nothing
-unfoldable pub answerIn : ℕ → List ℕ → List ℕ
-answerIn n l = cond (ltb n 1024) [] (answerOf l)

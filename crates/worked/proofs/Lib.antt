@@ -1,1 +1,3 @@
+mod Lines
+mod Parts
 pub mod Proved

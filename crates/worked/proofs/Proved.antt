@@ -1,22 +1,17 @@
--- Every case of the table holds, by computation. Assumes nothing.
-use mathlib.Core.Path.{refl}
-use lib.Ieee.{add, sub, mul, div, lt, le, ofBits}
-use Rattle.lists.specs.First.{any}
-use Rattle.number.specs.Time.{ageOf, durationReply}
-use Rattle.number.specs.Root.{rootReply}
-use Rattle.lifecycle.specs.Lifecycle.{next, settled, agedOf, advancedOf}
-use Rattle.lifecycle.specs.Sensors.{recordedOf}
-use Rattle.matrix.specs.Matrix.{rowTimes, product, timesVector, transposed, congruence, plusVector, minusVector, plus, minus, meanRow, symmetrized, identity}
-use Rattle.matrix.specs.Flat.{rowOf, rowsOf, flatOf}
-use Rattle.math.specs.Checks.{finiteVector, finiteMatrix, largestInRow, largest, skewRow, skew, isSymmetric}
-use Rattle.math.specs.Cholesky.{columnBy, pivotRoot, columnsFrom, cholesky, forward, backward, solved, solvedColumns, gainBy}
-use Rattle.math.specs.Linalg.{factorable, validated, distanceReply, distanceBy, squaredDistance}
-use Rattle.math.specs.Models.{transition, noise, selection}
-use Rattle.filter.specs.Kalman.{finished, moved, predictReply, innovation, spread, corrected, gained, measuredBy, measured, checked, updateReply, distanceOf}
-use Rattle.filter.specs.Filter.{stored, predicted, updatedByPosition, squaredMahalanobis}
-use Rattle.worked.specs.Case.{All}
+-- Every case of the table holds. Assumes nothing.
+use mathlib.Core.List.{List, [], _∷_, _++_}
+use Rattle.worked.specs.Case.{Case, All}
+use Rattle.worked.specs.Lines.{lineCases}
+use Rattle.worked.specs.Roots.{rootCases}
+use Rattle.worked.specs.Filters.{filterCases}
+use Rattle.worked.specs.Lifecycles.{lifecycleCases}
 use Rattle.worked.specs.Table.{table}
+use Rattle.worked.proofs.Lines.{lines-hold}
+use Rattle.worked.proofs.Parts.{parts-hold}
+
+all-append : (a b : List Case) → All a → All b → All (a ++ b)
+all-append [] b x y = y
+all-append (c ∷ a) b (h, x) y = (h, all-append a b x y)
 
 pub proved : All table
-unfolding rootReply ofBits advancedOf agedOf settled next ageOf durationReply recordedOf any add sub mul div lt le rowTimes product timesVector transposed congruence plusVector minusVector plus minus meanRow symmetrized identity rowOf rowsOf flatOf finiteVector finiteMatrix largestInRow largest skewRow skew isSymmetric columnBy pivotRoot columnsFrom cholesky forward backward solved solvedColumns gainBy factorable validated distanceReply distanceBy squaredDistance transition noise selection finished moved predictReply innovation spread corrected gained measuredBy measured checked updateReply distanceOf stored predicted updatedByPosition squaredMahalanobis
-proved = (refl, (refl, (refl, (refl, (refl, (refl, (refl, (refl, (refl, (refl, (refl, tt)))))))))))
+proved = all-append lineCases (rootCases ++ filterCases ++ lifecycleCases) lines-hold parts-hold

@@ -1,4 +1,5 @@
 pub mod Case
+pub mod Lines
 pub mod Roots
 pub mod Filters
 pub mod Lifecycles

@@ -1,9 +1,10 @@
 -- All the cases that 01 marks as proved, in its order.
 use mathlib.Core.List.{List, _++_}
 use Rattle.worked.specs.Case.{Case}
+use Rattle.worked.specs.Lines.{lineCases}
 use Rattle.worked.specs.Roots.{rootCases}
 use Rattle.worked.specs.Filters.{filterCases}
 use Rattle.worked.specs.Lifecycles.{lifecycleCases}
 
 abbrev pub table : List Case
-table = rootCases ++ filterCases ++ lifecycleCases
+table = lineCases ++ rootCases ++ filterCases ++ lifecycleCases

@@ -1,7 +1,7 @@
 use borrow.Author.Needs.{needs}
 use mathlib.Core.Path.{sym}
 use lib.Seq.{length-take-le}
-use Rattle.assign.proofs.Fits.{wrote-fits}
+use Rattle.text.proofs.Texts.{wrote-fits}
 use Rattle.assign.proofs.main.Statement.{statement}
 use Rattle.assign.proofs.main.Tie as tie
 
