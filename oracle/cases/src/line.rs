@@ -12,6 +12,120 @@ pub struct LineCase(pub Vec<u8>);
 /// The longest line, with its newline.
 pub(crate) const LONGEST: usize = 16_384;
 
+/// Lines that every run begins with: the worked ones, then each rule kept and broken by itself.
+const FIXED: &[&str] = &[
+    "(assign 2 2 10 ((1 2) (- 4)))\n",
+    "(assign 0 3 10 ())\n",
+    "(assign 2 0 10 (() ()))\n",
+    "(assign 2 2 10 ((- -) (- -)))\n",
+    "(assign 1 1 10 ((10)))\n",
+    "(assign 1 1 10 ((11)))\n",
+    "(assign 0 0 0 ())\n",
+    "(assign 64 0 1 ())\n",
+    "(assign 0 64 1 ())\n",
+    "(assign 65 1 1 ())\n",
+    "(assign 1 65 1 ())\n",
+    "(assign 1000000 1000000 1 ())\n",
+    "(assign 1000001 1 1 ())\n",
+    "(assign 1 1000001 1 ())\n",
+    "(assign 65 1 1000001 ())\n",
+    "(assign 65 1 1 ((1000001)))\n",
+    "(assign 65 1 1 ((x)))\n",
+    "(assign 65 1 1 ()\n",
+    "(assign 1 1 -1000000 ((1000000)))\n",
+    "(assign 1 1 1000000 ((-1000000)))\n",
+    "(assign 1 1 -1000001 ((1)))\n",
+    "(assign 1 1 1 ((-1000001)))\n",
+    "(assign 1 1 - ((1)))\n",
+    "(assign - 1 1 ((1)))\n",
+    "(assign -1 1 1 ())\n",
+    "(assign 1 -1 1 ())\n",
+    "(assign 1 1 0 ((-0)))\n",
+    "(assign 1 1 -0 ((0)))\n",
+    "(assign -0 1 0 ())\n",
+    "(assign 01 1 1 ((1)))\n",
+    "(assign 1 1 01 ((1)))\n",
+    "(assign 1 1 1 ((01)))\n",
+    "(assign 1 1 1 ((-01)))\n",
+    "(assign 1 1 1 ((00)))\n",
+    "(assign 1 1 1 ((+1)))\n",
+    "(assign 1 1 1 ((--1)))\n",
+    "(assign 1 1 1 ((1-)))\n",
+    "(assign 1 1 1 ((1.0)))\n",
+    "(assign 1 1 1 ((18446744073709551617)))\n",
+    "(assign 1 1 1 ((4294967297)))\n",
+    "(assign  1 1 1 ((1)))\n",
+    "(assign 1 2 1 ((1  2)))\n",
+    "(assign 2 1 1 ((1)  (2)))\n",
+    "(assign 1 1 1 ( (1)))\n",
+    "(assign 1 1 1 ((1) ))\n",
+    "(assign 1 1 1 (( 1)))\n",
+    "(assign 1 1 1 ((1 )))\n",
+    "(assign 1 1 1 ((1)) )\n",
+    "( assign 1 1 1 ((1)))\n",
+    " (assign 1 1 1 ((1)))\n",
+    "(assign 1 1 1 ((1))) \n",
+    "(assign 2 1 1 ((1)(2)))\n",
+    "(assign 1 1 1((1)))\n",
+    "(assign 1 1 1\t((1)))\n",
+    "(assign 1 1 1 ((1)))",
+    "(assign 1 1 1 ((1)))\n\n",
+    "(assign 1 1 1 ((1)))\nx",
+    "(assign 1 1 1 ((1)))\r\n",
+    "(assign 1 1 1 ((1))\n",
+    "(assign 1 1 1 ((1))))\n",
+    "(assign 1 1 1 (((1))))\n",
+    "(assign 1 1 1 ((((1)))))\n",
+    "(assign 1 1 1 (1))\n",
+    "(assign 1 1 1 1)\n",
+    "(assign 1 1 1)\n",
+    "(assign 1 1 1 ((1)) 1)\n",
+    "(Assign 1 1 1 ((1)))\n",
+    "(assigns 1 1 1 ((1)))\n",
+    "assign 1 1 1 ((1))\n",
+    "(assign 2 1 1 ((1)))\n",
+    "(assign 1 1 1 ((1) (1)))\n",
+    "(assign 1 1 1 ((1 1)))\n",
+    "(assign 1 2 1 ((1)))\n",
+    "(assign 2 2 1 ((1 1) (1)))\n",
+    "(assign 0 0 1 (()))\n",
+    "(((())))\n",
+    "((((()))))\n",
+    "((((x))))\n",
+    "()\n",
+    "x\n",
+    "\n",
+    "",
+];
+
+/// A line of so many bytes that is answered: 64 rows of 64 entries, each as long as there is room for.
+fn full(length: usize) -> String {
+    let line = |lengths: &[usize]| {
+        let entry = |length: &usize| format!("1{}", "0".repeat(length - 1));
+        let row = |lengths: &[usize]| lengths.iter().map(entry).collect::<Vec<_>>().join(" ");
+        let rows = lengths.chunks(64).map(|lengths| format!("({})", row(lengths)));
+        format!(
+            "(assign 64 64 1000000 ({}))\n",
+            rows.collect::<Vec<_>>().join(" ")
+        )
+    };
+    let mut lengths = [1; 64 * 64];
+    let mut room = length - line(&lengths).len();
+    for entry in &mut lengths {
+        let more = room.min(5);
+        *entry += more;
+        room -= more;
+    }
+    line(&lengths)
+}
+
+/// A line of so many bytes whose one row has more entries than a table may have costs.
+fn overlong_row(length: usize) -> String {
+    let inside = length - "(assign 1 64 1 (()))\n".len();
+    let (ones, last) = ("1 ".repeat((inside - 1) / 2), "1".repeat(2 - inside % 2));
+    format!("(assign 1 64 1 (({ones}{last})))\n")
+}
+
 /// What is put in or over a byte to spoil a line.
 const SPOILERS: &[u8] = b"  ()--0123456789\n\tax\x00\xFF";
 
@@ -73,7 +187,7 @@ fn shaped(random: &mut Random) -> String {
     )
 }
 
-/// One byte more, one less, one other, or two lines in one.
+/// One byte more, one less, one other, or the line cut off.
 fn spoil(random: &mut Random, line: &mut Vec<u8>) {
     let place = random.below(line.len() as u64) as usize;
     let byte = SPOILERS[random.below(SPOILERS.len() as u64) as usize];
@@ -89,32 +203,18 @@ impl Case for LineCase {
     type Reply = Vec<u8>;
 
     fn fixed() -> Vec<Self> {
-        let longest = |length: usize| {
-            let inside = length - "(assign 1 64 1 (()))\n".len();
-            let (ones, last) = ("1 ".repeat((inside - 1) / 2), "1".repeat(2 - inside % 2));
-            format!("(assign 1 64 1 (({ones}{last})))\n")
-        };
-        let lines = [
-            "(assign 2 2 10 ((1 2) (- 4)))\n",
-            "(assign 0 3 10 ())\n",
-            "(assign 2 0 10 (() ()))\n",
-            "(assign 2 2 10 ((- -) (- -)))\n",
-            "(assign 1 1 10 ((10)))\n",
-            "(assign 1 1 10 ((11)))\n",
-            "(assign 65 1 1 ())\n",
-            "(assign 1000001 1 1 ())\n",
-            "(assign 1 1 1 ((((1)))))\n",
-            "",
-            "\n",
-            "()\n",
-        ];
-        let longest = [LONGEST - 1, LONGEST, LONGEST + 1].map(longest);
-        let owned = lines.map(str::to_string).into_iter().chain(longest);
+        let around = [LONGEST - 1, LONGEST, LONGEST + 1];
+        let long = around.into_iter().flat_map(|n| [full(n), overlong_row(n)]);
+        let owned = FIXED.iter().map(|line| line.to_string()).chain(long);
         owned.map(|line| LineCase(line.into_bytes())).collect()
     }
 
     fn random(random: &mut Random) -> Self {
-        let mut line = shaped(random).into_bytes();
+        let line = match random.below(1_000) {
+            0 => full(LONGEST - 2 + random.below(5) as usize),
+            _ => shaped(random),
+        };
+        let mut line = line.into_bytes();
         for _ in 0..random.below(3) * random.below(2) {
             if !line.is_empty() {
                 spoil(random, &mut line);

@@ -8,6 +8,8 @@ mod filter;
 mod least;
 #[cfg(feature = "replay")]
 mod lifecycle;
+#[cfg(feature = "assign")]
+mod line;
 #[cfg(feature = "pikowhanu")]
 mod root;
 #[cfg(feature = "replay")]
@@ -31,6 +33,8 @@ pub const PARTS: &[Entry] = &[
     entry::<assignment::AssignmentPart>(),
     #[cfg(feature = "pikowhanu")]
     entry::<least::LeastPart>(),
+    #[cfg(feature = "assign")]
+    entry::<line::LinePart>(),
     #[cfg(feature = "replay")]
     entry::<filter::FilterPart>(),
     #[cfg(feature = "replay")]

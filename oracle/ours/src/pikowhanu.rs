@@ -79,7 +79,14 @@ pub fn assignment_reply(table: &Table) -> AssignmentReply {
 /// The call with so many places lent: its answer, and the places with those behind them.
 fn mates(table: &Table, room: usize) -> (u32, Vec<u64>) {
     let mut places = vec![NO_MATE; room + NOT_LENT];
-    let number = unsafe {
+    let number = paired(table, &mut places[..room]);
+    (number, places)
+}
+
+/// The call itself, with these places lent.
+#[inline]
+fn paired(table: &Table, mates: &mut [u64]) -> u32 {
+    unsafe {
         pk_linear_assignment(
             table.costs.as_ptr(),
             table.costs.len(),
@@ -87,11 +94,10 @@ fn mates(table: &Table, room: usize) -> (u32, Vec<u64>) {
             table.columns,
             table.row_cost,
             table.column_cost,
-            places.as_mut_ptr(),
-            room,
+            mates.as_mut_ptr(),
+            mates.len(),
         )
-    };
-    (number, places)
+    }
 }
 
 /// The pairs and the rows and columns that are left, from each row's column.
@@ -111,17 +117,5 @@ fn listed(mates: &[u64], columns: usize) -> Assignment {
 /// The assignment as a caller takes it, for measuring: whether it was given, and the places after the call.
 #[inline]
 pub fn assignment(table: &Table, mates: &mut [u64; 64]) -> bool {
-    let number = unsafe {
-        pk_linear_assignment(
-            table.costs.as_ptr(),
-            table.costs.len(),
-            table.rows,
-            table.columns,
-            table.row_cost,
-            table.column_cost,
-            mates.as_mut_ptr(),
-            mates.len(),
-        )
-    };
-    number == 0
+    paired(table, mates) == 0
 }
