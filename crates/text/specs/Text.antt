@@ -10,7 +10,7 @@ use Rattle.forms.specs.Bytes.{bytesOf}
 use Rattle.number.specs.Reply.{Reply, refused, given}
 use Rattle.kuhn_munkres.specs.Assignment.{Pair, Pairs}
 
--- a number below 100, as every row, column and refusal is
+-- a number below 100, as every row, column and refusal is (laws: proofs/Digits here, proofs/Named in `line`)
 unfoldable pub digitsOf : ℕ → List ℕ
 digitsOf n = cond (ltb n 10) ((48 + n) ∷ []) ((48 + n / 10 % 10) ∷ (48 + n % 10) ∷ [])
 
