@@ -83,7 +83,7 @@ fn number_at(f: KalmanFilter, i: usize) -> u64 {
 fn write_filter(f: KalmanFilter) {
     let mut i: usize = 0;
     while i < 44 {
-        super::line::write(
+        super::wire::write(
             b'V',
             number_at(f, i),
             number_at(f, i + 1),
@@ -100,10 +100,10 @@ fn with_step(numbers: [f64; 54], s: Step) -> Filters {
     let filter = s.filter;
     match outcome {
         Outcome::Done => {
-            super::line::write(b'F', 0, 0, 0, 0);
+            super::wire::write(b'F', 0, 0, 0, 0);
         }
         Outcome::Refused(why) => {
-            super::line::write(b'F', code_of(why), 0, 0, 0);
+            super::wire::write(b'F', code_of(why), 0, 0, 0);
         }
     }
     write_filter(filter);
@@ -113,10 +113,10 @@ fn with_step(numbers: [f64; 54], s: Step) -> Filters {
 fn write_distance(d: Distance) {
     match d {
         Distance::Squared(x) => {
-            super::line::write(b'E', 0, super::floats::bits_of(x), 0, 0);
+            super::wire::write(b'E', 0, super::floats::bits_of(x), 0, 0);
         }
         Distance::Refused(why) => {
-            super::line::write(b'E', code_of(why), 0, 0, 0);
+            super::wire::write(b'E', code_of(why), 0, 0, 0);
         }
     }
 }

@@ -77,7 +77,7 @@ fn write_life(l: TrackLifecycle) {
     let seen = l.last_observation;
     let counted = l.last_counted;
     let flags = present(seen) % 2 * 4294967296 + present(counted) % 2 * 8589934592;
-    super::line::write(
+    super::wire::write(
         letter_of(state),
         bits(l.created_at),
         time_of(seen),
@@ -96,28 +96,28 @@ fn sensor_at(s: Sensors, i: usize) -> u64 {
 }
 
 fn write_sensors(s: Sensors) {
-    super::line::write(
+    super::wire::write(
         b'S',
         sensor_at(s, 0),
         sensor_at(s, 1),
         sensor_at(s, 2),
         sensor_at(s, 3),
     );
-    super::line::write(
+    super::wire::write(
         b'S',
         sensor_at(s, 4),
         sensor_at(s, 5),
         sensor_at(s, 6),
         sensor_at(s, 7),
     );
-    super::line::write(
+    super::wire::write(
         b'S',
         sensor_at(s, 8),
         sensor_at(s, 9),
         sensor_at(s, 10),
         sensor_at(s, 11),
     );
-    super::line::write(
+    super::wire::write(
         b'S',
         sensor_at(s, 12),
         sensor_at(s, 13),

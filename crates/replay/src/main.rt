@@ -15,12 +15,15 @@
 //   H length, rows times 2^32 and columns, row cost and column cost by their bits: the assignment of the first costs; none is loaded then. Answers H, the
 //     refusal's number or 0, and how many pairs, rows and columns that are left there are; then lines of J and four of these: the pairs as row times 2^32 and
 //     column, the rows that are left, the columns that are left, and 2^64 - 1 where they have ended.
+//   I four numbers: 32 bytes of a line of `assign`, eight to a number, the highest first, loaded behind those that are loaded. Answers nothing.
+//   Y length: the line of the first bytes; none is loaded then. Answers Y and how many bytes answer it; then these in lines of I, zeros after the last.
 mod filters;
 mod floats;
-mod line;
+mod lines;
 mod lives;
 mod roots;
 mod tables;
+mod wire;
 
 use filters::Filters;
 use lives::Lives;
@@ -47,11 +50,25 @@ fn is_tables(letter: u8) -> bool {
 
 // Runs one line's call on a table; how many costs are loaded then.
 fn run_table(costs: &mut [f64; 4096], loaded: usize, l: &[u8; 70]) -> usize {
-    let first = line::number(l, 2);
-    let second = line::number(l, 19);
-    let third = line::number(l, 36);
-    let fourth = line::number(l, 53);
+    let first = wire::number(l, 2);
+    let second = wire::number(l, 19);
+    let third = wire::number(l, 36);
+    let fourth = wire::number(l, 53);
     tables::run(costs, loaded, l[0], first, second, third, fourth)
+}
+
+// Whether a call is one on a line of `assign`.
+fn is_lines(letter: u8) -> bool {
+    letter == b'I' || letter == b'Y'
+}
+
+// Runs one line's call on a line of `assign`; how many bytes are loaded then.
+fn run_line(input: &mut [u8; 16416], loaded: usize, l: &[u8; 70]) -> usize {
+    let first = wire::number(l, 2);
+    let second = wire::number(l, 19);
+    let third = wire::number(l, 36);
+    let fourth = wire::number(l, 53);
+    lines::run(input, loaded, l[0], first, second, third, fourth)
 }
 
 // Runs one line's other call.
@@ -59,10 +76,10 @@ fn run(state: State, l: &[u8; 70]) -> State {
     let lives = state.lives;
     let filters = state.filters;
     let letter = l[0];
-    let first = line::number(l, 2);
-    let second = line::number(l, 19);
-    let third = line::number(l, 36);
-    let fourth = line::number(l, 53);
+    let first = wire::number(l, 2);
+    let second = wire::number(l, 19);
+    let third = wire::number(l, 36);
+    let fourth = wire::number(l, 53);
     if letter == b'Q' {
         roots::write(first, second, third, fourth);
         state
@@ -86,6 +103,8 @@ fn main() {
     };
     let mut costs = [0.0f64; 4096];
     let mut loaded = 0usize;
+    let mut input = [0u8; 16416];
+    let mut held = 0usize;
     for _ in 0..1099511627776u64 {
         let mut l = [0u8; 70];
         if io::read_full(0, &mut l) < 70 {
@@ -93,6 +112,10 @@ fn main() {
         }
         if is_tables(l[0]) {
             loaded = run_table(&mut costs, loaded, &l);
+            continue;
+        }
+        if is_lines(l[0]) {
+            held = run_line(&mut input, held, &l);
             continue;
         }
         state = run(state, &l);

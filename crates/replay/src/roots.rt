@@ -11,5 +11,5 @@ fn answer(b: u64) -> u64 {
 
 // Writes the roots of four numbers.
 pub fn write(a: u64, b: u64, c: u64, d: u64) {
-    super::line::write(b'Q', answer(a), answer(b), answer(c), answer(d));
+    super::wire::write(b'Q', answer(a), answer(b), answer(c), answer(d));
 }

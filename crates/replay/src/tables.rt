@@ -1,5 +1,4 @@
 // Cost tables, loaded by some lines, and their assignments.
-ghost use Prim.Native.Nat.{_≤_};
 use assignment::Assignment;
 use assignment::Outcome;
 
@@ -81,7 +80,7 @@ fn add_list(items: &mut [u64; 192], from: usize, list: &[usize; 64], count: usiz
 fn write_items(items: &[u64; 192], n: usize) {
     for i in 0..48usize {
         if i * 4 < n {
-            super::line::write(
+            super::wire::write(
                 b'J',
                 items[i * 4],
                 items[i * 4 + 1],
@@ -95,7 +94,7 @@ fn write_items(items: &[u64; 192], n: usize) {
 
 fn write_assignment(code: u64, a: Assignment) {
     let mut items = [18446744073709551615u64; 192];
-    super::line::write(
+    super::wire::write(
         b'H',
         code,
         a.pair_count as u64,
@@ -127,16 +126,9 @@ fn pair(costs: &[f64], sides: u64, row_cost: u64, column_cost: u64) {
     write_assignment(code_of(outcome), given);
 }
 
-// A number, or the limit where it is above it.
-fn at_most(n: u64, limit: usize) -> usize
-    ensures { λ r. ⌜ r ≤ limit ⌝ }
-{
-    if n < limit as u64 { n as usize } else { limit }
-}
-
 // The assignment of the first costs, as many as `length` says.
 fn pair_front(costs: &[f64], length: u64, sides: u64, row_cost: u64, column_cost: u64) {
-    let end = at_most(length, costs.len());
+    let end = super::wire::at_most(length, costs.len());
     pair(&costs[..end], sides, row_cost, column_cost);
 }
 

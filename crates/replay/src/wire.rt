@@ -61,3 +61,10 @@ pub fn write(letter: u8, a: u64, b: u64, c: u64, d: u64) {
 fn send(l: &[u8; 70]) {
     io::write_all(1, l);
 }
+
+// A number, or the limit where it is above it.
+pub fn at_most(n: u64, limit: usize) -> usize
+    ensures { λ r. ⌜ r ≤ limit ⌝ }
+{
+    if n < limit as u64 { n as usize } else { limit }
+}

@@ -10,7 +10,7 @@ use trials::Case;
 pub struct LineCase(pub Vec<u8>);
 
 /// The longest line, with its newline.
-pub(crate) const LONGEST: usize = 16_384;
+pub const LONGEST: usize = 16_384;
 
 /// Lines that every run begins with: the worked ones, then each rule kept and broken by itself.
 const FIXED: &[&str] = &[

@@ -1,6 +1,7 @@
 //! Writes what the gate's program replay reads, and what it must write: recorder FOLDER, for FOLDER/stdin and FOLDER/stdout.
 
 mod filters;
+mod lines;
 mod lives;
 mod root;
 mod sensors;
@@ -30,6 +31,7 @@ fn main() -> ExitCode {
     sensors::record(&mut recording);
     filters::record(&mut recording);
     tables::record(&mut recording);
+    lines::record(&mut recording);
     match write(&recording, Path::new(folder)) {
         Ok(()) => {
             let (calls, answers) = (recording.calls.len(), recording.answers.len());

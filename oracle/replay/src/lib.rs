@@ -2,6 +2,7 @@
 
 pub mod filters;
 mod line;
+pub mod lines;
 pub mod lives;
 mod program;
 pub mod sensors;
