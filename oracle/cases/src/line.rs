@@ -103,7 +103,9 @@ fn full(length: usize) -> String {
     let line = |lengths: &[usize]| {
         let entry = |length: &usize| format!("1{}", "0".repeat(length - 1));
         let row = |lengths: &[usize]| lengths.iter().map(entry).collect::<Vec<_>>().join(" ");
-        let rows = lengths.chunks(64).map(|lengths| format!("({})", row(lengths)));
+        let rows = lengths
+            .chunks(64)
+            .map(|lengths| format!("({})", row(lengths)));
         format!(
             "(assign 64 64 1000000 ({}))\n",
             rows.collect::<Vec<_>>().join(" ")

@@ -36,7 +36,12 @@ mod tests {
     #[test]
     fn bytes_in_order() {
         let line = b"(assign 0 0 0 ())\n";
-        let numbers = [0x2861_7373_6967_6E20, 0x3020_3020_3020_2829, 0x290A << 48, 0];
+        let numbers = [
+            0x2861_7373_6967_6E20,
+            0x3020_3020_3020_2829,
+            0x290A << 48,
+            0,
+        ];
         assert_eq!(
             calls(line),
             [Line::new('I', numbers), Line::of('Y', line.len() as u64)]
