@@ -12,6 +12,8 @@ use lib.Ieee.Scale.{finite}
 use Rattle.number.specs.Reply.{Reply, refused, given}
 use Rattle.kuhn_munkres.specs.Strike.{zipped}
 use Rattle.kuhn_munkres.specs.Assignment.{Pair, Pairs, bind, rowsOf, pairing, pairsOf, takersReply, assignmentReply}
+use Rattle.groups.proofs.Once.{pairing-sound}
+use Rattle.least.proofs.Answer.{assignment-least}
 use Rattle.assignment.specs.Listing.{padded, rowOf, columnIn, pairOf, assignmentOf, assignmentFor, pairsIn, Once, AssignmentAnswer}
 use Rattle.assignment.specs.Replies.{replyOf}
 use Rattle.assignment.specs.declared.Assignment.{Assignment}
@@ -20,7 +22,6 @@ use Rattle.assignment.specs.declared.Outcome.{Outcome}
 use Rattle.assignment.specs.declared.Outcome.the-variants.{Given}
 use Rattle.assignment.proofs.Calls.{rows-over, columns-over, row-cost-bad, column-cost-bad, size-bad, checked}
 use Rattle.assignment.proofs.EachOnce.{each-once}
-use Rattle.assignment.proofs.Once.{pairing-sound}
 use Rattle.assignment.proofs.Listings.{front}
 
 zip-pairs : (l : List Pair) → zipped pairOf (map rowOf l) (map columnIn l) ≡ l
@@ -83,7 +84,7 @@ module _ (costs : List Float) (n m : ℕ) (rowCost columnCost : Float) where
           let z : pairsOf n t ≡ a = cc in
           subst (Once n m) z (each-once t n (S .low) (S .inj) m (S .long))
 
-  pub answer-given : (t : List (Option ℕ)) (r : Assigned) → given t ≡ takersReply costs n m rowCost columnCost → r .outcome ≡ Given → r .assignment ≡ assignmentOf (pairsOf n t) → AssignmentAnswer n m (assignmentReply costs n m rowCost columnCost) r
+  pub answer-given : (t : List (Option ℕ)) (r : Assigned) → given t ≡ takersReply costs n m rowCost columnCost → r .outcome ≡ Given → r .assignment ≡ assignmentOf (pairsOf n t) → AssignmentAnswer costs n m rowCost columnCost r
   unfolding assignmentReply bind
   answer-given t r e o a =
       let w : given (pairsOf n t) ≡ assignmentReply costs n m rowCost columnCost = ap (λ (x : Reply (List (Option ℕ))). bind x (λ y. given (pairsOf n y))) e in
@@ -91,10 +92,11 @@ module _ (costs : List Float) (n m : ℕ) (rowCost columnCost : Float) where
         is = ap₂ (λ (x : Outcome) (y : Assignment). replyOf x (pairsIn y)) o a ∙ ap given (holds (pairsOf n t)) ∙ w;
         whole = a ∙ ap assignmentFor w;
         once = once-all;
+        least = assignment-least costs n m rowCost columnCost;
       }
 
-  pub answer-refused : (k : ℕ) (r : Assigned) → refused k ≡ takersReply costs n m rowCost columnCost → ((p : Pairs) → replyOf (r .outcome) p ≡ refused k) → r .assignment ≡ assignmentOf (record { pairs = []; rows = []; columns = [] }) → AssignmentAnswer n m (assignmentReply costs n m rowCost columnCost) r
+  pub answer-refused : (k : ℕ) (r : Assigned) → refused k ≡ takersReply costs n m rowCost columnCost → ((p : Pairs) → replyOf (r .outcome) p ≡ refused k) → r .assignment ≡ assignmentOf (record { pairs = []; rows = []; columns = [] }) → AssignmentAnswer costs n m rowCost columnCost r
   unfolding assignmentReply bind
   answer-refused k r e o a =
       let w : refused k ≡ assignmentReply costs n m rowCost columnCost = ap (λ (x : Reply (List (Option ℕ))). bind x (λ y. given (pairsOf n y))) e in
-      record { is = o (pairsIn (r .assignment)) ∙ w; whole = a ∙ ap assignmentFor w; once = once-all }
+      record { is = o (pairsIn (r .assignment)) ∙ w; whole = a ∙ ap assignmentFor w; once = once-all; least = assignment-least costs n m rowCost columnCost }

@@ -17,7 +17,8 @@ use Rattle.kuhn_munkres.specs.Strike.{upFrom}
 use Rattle.kuhn_munkres.specs.Groups.{labels}
 use Rattle.kuhn_munkres.specs.Assignment.{rowsOf, larger, largest, largestOf, sentinelOf, groups, pairing, orElse, takersReply}
 use Rattle.assignment.specs.Labelling.{rowOr}
-use Rattle.assignment.specs.Taking.{takersOf, replyIf, ownReply, AllTaken}
+use Rattle.groups.specs.Solvers.{ownReply}
+use Rattle.assignment.specs.Taking.{takersOf, replyIf, AllTaken}
 use Rattle.assignment.specs.Replies.{replyOf}
 
 largest-append : (m : Float) (a b : List Float) → largest m (a ++ b) ≡ largest (largest m a) b

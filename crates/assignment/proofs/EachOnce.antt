@@ -1,17 +1,18 @@
 -- Where no row takes two columns, each row and each column stands once in the pairs and lists, and the lists ascend.
 use mathlib.Core.Path.{_≡_, refl, sym, ap, ap₂, _∙_, subst}
 use mathlib.Core.Logic.{_⊎_, inl, inr}
-use mathlib.Core.Bool.{Bool, true, false, cond, true≢false}
+use mathlib.Core.Bool.{Bool, cond}
 use mathlib.Core.List.{List, [], _∷_, map}
 use mathlib.Core.Option.{Option, none, some}
 use Prim.Native.Nat.{ℕ, zero, suc, _+_, _-_, _≤_, _<_}
 use native.Mathlib.Decide.{ℕ-discrete, decLt}
 use native.Mathlib.Omega.{arith}
-use borrow.Author.Tests.{eq-eqb, ne-eqb, eqb-true, lt-ltb, le-ltb}
+use borrow.Author.Tests.{eq-eqb, ne-eqb, lt-ltb, le-ltb}
 use lib.Dec.{eqb, ltb}
 use lib.ListN.{getD, length}
-use Rattle.kuhn_munkres.specs.Groups.{isLabel}
 use Rattle.kuhn_munkres.specs.Assignment.{Pair, Pairs, columnOf, pairAt, freeAt, pairsFrom, freeRows, freeColumns, pairsOf}
+use Rattle.kuhn_munkres.proofs.Labels.{none-some, some-in}
+use Rattle.kuhn_munkres.proofs.Columns.{column-takes, column-is}
 use Rattle.assignment.specs.Listing.{rowOf, columnIn, times, Ascending, Once}
 
 -- ---- ascending lists
@@ -98,41 +99,7 @@ module _ (t : List (Option ℕ)) (x : ℕ) where
       go (no h) = total-none n 0 (inr (omega arith)) ∙ sym (ap (λ (b : Bool). cond b 1 0) (le-ltb x n (omega arith)))
 
 -- ---- columns
-no-none : {A B : Type 0} {x : A} → none ≡ some x → B
-no-none e = absurd (let z : _≡_ {A = ℕ} 0 1 = cc in omega arith)
-
--- the column of a row is one that it takes
-found-takes : (i k j : ℕ) (t : List (Option ℕ)) → columnOf i k t ≡ some j → (k ≤ j) × (getD t (j - k) none ≡ some i)
-unfolding columnOf
-found-takes i k j [] e = no-none e
-found-takes i k j (o ∷ t) e = go (isLabel i o) refl (found-takes i (suc k) j t) e
-  where
-    label : (p : Option ℕ) → isLabel i p ≡ true → p ≡ some i
-    label none q = unfold isLabel in absurd (true≢false (sym q))
-    label (some g) q = ap some (sym (eqb-true i g (unfold isLabel in q)))
-
-    go : (b : Bool) → isLabel i o ≡ b → (columnOf i (suc k) t ≡ some j → (suc k ≤ j) × (getD t (j - suc k) none ≡ some i)) → cond b (some k) (columnOf i (suc k) t) ≡ some j → (k ≤ j) × (getD (o ∷ t) (j - k) none ≡ some i)
-    go true q ih w = let z : k ≡ j = cc in let v : j - k ≡ 0 = omega arith in (omega arith, rw v (label o q))
-    go false q ih w = let r = ih w in let l = r .0 in let v : j - k ≡ suc (j - suc k) = omega arith in (omega arith, rw v (r .1))
-
--- a row that takes a column has one
-takes-found : (i k j : ℕ) (t : List (Option ℕ)) → getD t j none ≡ some i → (c : ℕ) × (columnOf i k t ≡ some c)
-unfolding columnOf
-takes-found i k j [] e = no-none e
-takes-found i k j (o ∷ t) e = go (isLabel i o) refl j e (λ j' q. takes-found i (suc k) j' t q)
-  where
-    go : (b : Bool) → isLabel i o ≡ b → (j : ℕ) → getD (o ∷ t) j none ≡ some i → ((j' : ℕ) → getD t j' none ≡ some i → (c : ℕ) × (columnOf i (suc k) t ≡ some c)) → (c : ℕ) × (cond b (some k) (columnOf i (suc k) t) ≡ some c)
-    go true q j w ih = (k, refl)
-    go false q zero w ih = absurd (true≢false (sym (ap (isLabel i) w ∙ (unfold isLabel in eq-eqb i i refl)) ∙ q))
-    go false q (suc j) w ih = ih j w
-
 module _ (t : List (Option ℕ)) (n : ℕ) (low : (j i : ℕ) → getD t j none ≡ some i → i < n) (inj : (j k i : ℕ) → getD t j none ≡ some i → getD t k none ≡ some i → j ≡ k) where
-  takes : (i j : ℕ) → columnOf i 0 t ≡ some j → getD t j none ≡ some i
-  takes i j e = let z : j - 0 ≡ j = omega arith in rw z at (found-takes i 0 j t e .1)
-
-  column-is : (i j : ℕ) → getD t j none ≡ some i → columnOf i 0 t ≡ some j
-  column-is i j e = let r = takes-found i 0 j t e in r .1 ∙ ap some (inj (r .0) j i (takes i (r .0) (r .1)) e)
-
   module _ (j : ℕ) where
     pair-next : (k i : ℕ) (o : Option ℕ) → columnOf i 0 t ≡ o → times j (map columnIn (pairsFrom t i (suc k))) ≡ times j (map columnIn (pairAt i o (pairsFrom t (suc i) k)))
     unfolding pairsFrom
@@ -153,7 +120,7 @@ module _ (t : List (Option ℕ)) (n : ℕ) (low : (j i : ℕ) → getD t j none 
     pairs-one (suc k) i r h l e = go (ℕ-discrete i r) (columnOf i 0 t) refl (λ a b. pairs-one k (suc i) r a b e)
       where
         only : (q : ℕ) → columnOf q 0 t ≡ some j → q ≡ r
-        only q w = let z : some q ≡ some r = sym (takes q j w) ∙ takes r j e in cc
+        only q w = let z : some q ≡ some r = sym (column-takes t q j w) ∙ column-takes t r j e in cc
 
         go : Dec (i ≡ r) → (o : Option ℕ) → columnOf i 0 t ≡ o → (suc i ≤ r → r < suc i + k → times j (map columnIn (pairsFrom t (suc i) k)) ≡ 1) → times j (map columnIn (pairAt i (columnOf i 0 t) (pairsFrom t (suc i) k))) ≡ 1
         go (yes q) o w ih =
@@ -181,8 +148,8 @@ module _ (t : List (Option ℕ)) (n : ℕ) (low : (j i : ℕ) → getD t j none 
   free-at j (o ∷ l) k h g = go (ℕ-discrete j k) (λ a b. free-at j l (suc k) a b)
     where
       here : (p : Option ℕ) → j ≡ k → (p ≡ none → times j (freeAt k p (freeColumns (suc k) l)) ≡ 1) × ((i : ℕ) → p ≡ some i → times j (freeAt k p (freeColumns (suc k) l)) ≡ 0)
-      here none e = (λ q. (unfold freeAt times hit in (let a = free-below j l (suc k) (omega arith) in let b : hit j k ≡ 1 = (rw e (hit-same k)) in omega arith)), λ i q. no-none q)
-      here (some x) e = (λ q. no-none (sym q), λ i q. unfold freeAt in free-below j l (suc k) (omega arith))
+      here none e = (λ q. (unfold freeAt times hit in (let a = free-below j l (suc k) (omega arith) in let b : hit j k ≡ 1 = (rw e (hit-same k)) in omega arith)), λ i q. none-some q)
+      here (some x) e = (λ q. none-some (sym q), λ i q. unfold freeAt in free-below j l (suc k) (omega arith))
 
       skip : (p : Option ℕ) → (j ≡ k → ⊥) → times j (freeAt k p (freeColumns (suc k) l)) ≡ times j (freeColumns (suc k) l)
       skip none f = unfold freeAt times hit in (let b = hit-other j k f in omega arith)
@@ -208,22 +175,17 @@ module _ (t : List (Option ℕ)) (n : ℕ) (low : (j i : ℕ) → getD t j none 
       z : j - 0 ≡ j
       z = omega arith
 
-      beyond : (l : List (Option ℕ)) (k i : ℕ) → length l ≤ k → getD l k none ≡ some i → ⊥
-      beyond [] k i h e = no-none e
-      beyond (o ∷ l) zero i h e = omega arith
-      beyond (o ∷ l) (suc k) i h e = beyond l k i (omega arith) e
-
       go : Dec (j < length t) → (o : Option ℕ) → getD t j none ≡ o → times j (map columnIn (pairsFrom t 0 n)) + times j (freeColumns 0 t) ≡ cond (ltb j (length t)) 1 0
       go (yes h) none e =
-          let a = pairs-none j n 0 (λ r q w. no-none (sym e ∙ takes r j w)) in
+          let a = pairs-none j n 0 (λ r q w. none-some (sym e ∙ column-takes t r j w)) in
           let b = free-at j t 0 (omega arith) (omega arith) .0 (rw z e) in
           rw (lt-ltb j (length t) h) (omega arith)
       go (yes h) (some i) e =
-          let a = pairs-one j n 0 i (omega arith) (let q = low j i e in omega arith) (column-is i j e) in
+          let a = pairs-one j n 0 i (omega arith) (let q = low j i e in omega arith) (column-is t inj i j e) in
           let b = free-at j t 0 (omega arith) (omega arith) .1 i (rw z e) in
           rw (lt-ltb j (length t) h) (omega arith)
       go (no h) o e =
-          let a = pairs-none j n 0 (λ r q w. beyond t j r (omega arith) (takes r j w)) in
+          let a = pairs-none j n 0 (λ r q w. let b = some-in t j r (column-takes t r j w) in omega arith) in
           let b = free-above j t 0 (omega arith) in
           rw (le-ltb j (length t) (let c : length t ≤ j = omega arith in c)) (omega arith)
 

@@ -18,7 +18,8 @@ use lib.Ieee.Scale.{finite}
 use Rattle.kuhn_munkres.specs.Strike.{anyOf}
 use Rattle.kuhn_munkres.specs.Groups.{Labels, hits, relabel, relabelled, joinedTo, join, labels, joins, alone}
 use Rattle.kuhn_munkres.specs.Assignment.{rowsOf}
-use Rattle.kuhn_munkres.proofs.Labels.{Named, Touching, named-all, labels-snoc, row-long, hit-in, hit-out, row-before, row-new, col-new, col-beyond, named-join}
+use Rattle.kuhn_munkres.proofs.Labels.{nones-at, Named, Touching, named-all, labels-snoc, row-long, hit-in, hit-out, row-before, row-new, col-new, col-beyond, named-join}
+use Rattle.groups.proofs.Masks.{not-true}
 use Rattle.assignment.specs.Forest.{Forest, Labelled, Ranked}
 use Rattle.assignment.specs.Labelling.{allowedAt, touched, rowLabel, Roomy, RowJoined, orItem, itemLabel, Alone, Grouped}
 use Rattle.assignment.proofs.Forests.{labels-same}
@@ -77,10 +78,6 @@ same-bool : (a b : Bool) → (a ≡ true → b ≡ true) → (b ≡ true → a �
 same-bool true b f g = sym (f refl)
 same-bool false true f g = g refl
 same-bool false false f g = refl
-
-not-true : (b : Bool) → (b ≡ true → ⊥) → b ≡ false
-not-true true f = absurd (f refl)
-not-true false f = refl
 
 module _ (n m : ℕ) (costs : List Float) (i : ℕ) (hi : i < n) (fits : suc i * m ≤ length costs) where
   abbrev s : Labels
@@ -245,11 +242,6 @@ stage-first costs n m par a =
     zeros (suc k) zero = refl
     zeros (suc k) (suc x) = zeros k x
 
-    nones : (k x : ℕ) → _≡_ {A = Option ℕ} (getD (replicate k none) x none) none
-    nones zero x = refl
-    nones (suc k) zero = refl
-    nones (suc k) (suc x) = nones k x
-
     empty : labels finite (rowsOf 0 m costs) m ≡ alone finite m
     empty = unfold labels rowsOf joins in refl
 
@@ -258,7 +250,7 @@ stage-first costs n m par a =
       where
         go : Dec (x < n) → itemLabel n (alone finite m) x ≡ x
         go (yes h) = item-next n (alone finite m) x (omega arith) h
-        go (no h) = item-col n (alone finite m) x (omega arith) (omega arith) ∙ ap (orItem x) (nones m (x - n))
+        go (no h) = item-col n (alone finite m) x (omega arith) (omega arith) ∙ ap (orItem x) (nones-at m (x - n))
 
 module _ (costs : List Float) (n m i : ℕ) (par rank : List ℕ) (hn : n ≤ 64) (hm : m ≤ 64) (size : length costs ≡ n * m) (hi : i < n) (g : Stage costs n m i par rank) where
   pub row-end : i * m + m ≤ length costs

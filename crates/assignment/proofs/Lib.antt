@@ -10,5 +10,4 @@ pub mod Solving
 pub mod Calls
 pub mod Listings
 pub mod Answers
-pub mod Once
 pub mod EachOnce

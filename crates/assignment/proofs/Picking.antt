@@ -1,62 +1,19 @@
--- One place more of a pass, and what a mask strikes as what a pass picks.
-use mathlib.Core.Path.{_≡_, refl, sym, ap, ap₂, _∙_, subst}
+-- One place more of what the passes lay in the arrays, and of the largest cost.
+use mathlib.Core.Path.{_≡_, refl, sym, ap, _∙_}
 use mathlib.Core.Bool.{Bool, true, false, cond}
-use mathlib.Core.List.{List, [], _∷_, _++_, map, append-assoc, append-nil}
-use Prim.Native.Nat.{ℕ, zero, suc, _+_, _-_, _*_, _≤_, _<_}
+use mathlib.Core.List.{List, [], _∷_, _++_, append-assoc, append-nil}
+use Prim.Native.Nat.{ℕ, suc, _+_, _*_, _≤_, _<_}
 use native.Mathlib.Numerals.{add-one}
 use native.Mathlib.Nat.{suc-mul, zero-mul, mul-le-mul-right, mul-le-mul-left}
 use native.Mathlib.Omega.{arith}
-use borrow.Author.Tests.{eq-eqb, ne-eqb}
-use lib.Dec.{eqb}
 use lib.ListN.{getD, set, length, take, drop, length-append, length-set}
-use lib.Seq.{take-suc-set, take-all, drop-cons, drop-length, take-set-le}
+use lib.Seq.{take-suc-set, drop-cons, drop-length}
 use lib.Ieee.{Float, nan}
 use lib.Ieee.Scale.{finite}
-use Rattle.kuhn_munkres.specs.Strike.{strike}
 use Rattle.kuhn_munkres.specs.Assignment.{inOne, largest, larger}
-use Rattle.assignment.specs.Picks.{addIf, picked, ticks, bears, Laid, groupRow, groupTable, Gathered}
-
-module _ {A : Type 0} (m : ℕ → Bool) (f : ℕ → A) where
-  pub picked-on : (n : ℕ) → m n ≡ true → picked m f (n + 1) ≡ picked m f n ++ (f n ∷ [])
-  unfolding picked
-  picked-on n h = ap (λ (k : ℕ). picked m f k) (add-one n) ∙ ap (λ (b : Bool). addIf b (f n) (picked m f n)) h
-
-  pub picked-off : (n : ℕ) → m n ≡ false → picked m f (n + 1) ≡ picked m f n
-  unfolding picked
-  picked-off n h = ap (λ (k : ℕ). picked m f k) (add-one n) ∙ ap (λ (b : Bool). addIf b (f n) (picked m f n)) h
-
-  pub picked-long : (n : ℕ) → length (picked m f n) ≡ ticks m n
-  unfolding picked ticks
-  picked-long zero = refl
-  picked-long (suc n) = go (m n) (picked-long n)
-    where
-      go : (b : Bool) → length (picked m f n) ≡ ticks m n → length (addIf b (f n) (picked m f n)) ≡ cond b (suc (ticks m n)) (ticks m n)
-      go true e = length-append (picked m f n) (f n ∷ []) ∙ rw e (omega arith)
-      go false e = e
-
-module _ (m : ℕ → Bool) where
-  pub ticks-on : (n : ℕ) → m n ≡ true → ticks m (n + 1) ≡ ticks m n + 1
-  unfolding ticks
-  ticks-on n h = ap (λ (k : ℕ). ticks m k) (add-one n) ∙ ap (λ (b : Bool). cond b (suc (ticks m n)) (ticks m n)) h ∙ sym (add-one (ticks m n))
-
-  pub ticks-off : (n : ℕ) → m n ≡ false → ticks m (n + 1) ≡ ticks m n
-  unfolding ticks
-  ticks-off n h = ap (λ (k : ℕ). ticks m k) (add-one n) ∙ ap (λ (b : Bool). cond b (suc (ticks m n)) (ticks m n)) h
-
-  pub ticks-le : (n : ℕ) → ticks m n ≤ n
-  unfolding ticks
-  ticks-le zero = omega arith
-  ticks-le (suc n) = go (m n) (ticks-le n)
-    where
-      go : (b : Bool) → ticks m n ≤ n → cond b (suc (ticks m n)) (ticks m n) ≤ suc n
-      go true h = omega arith
-      go false h = omega arith
-
-pub picked-same : {A : Type 0} (m m' : ℕ → Bool) (f f' : ℕ → A) (n : ℕ) → ((i : ℕ) → i < n → m i ≡ m' i) → ((i : ℕ) → i < n → f i ≡ f' i) → picked m f n ≡ picked m' f' n
-unfolding picked
-picked-same m m' f f' zero h g = refl
-picked-same m m' f f' (suc n) h g =
-    rw (h n (omega arith), g n (omega arith), picked-same m m' f f' n (λ i l. h i (omega arith)) (λ i l. g i (omega arith)))
+use Rattle.groups.specs.Picks.{picked, ticks}
+use Rattle.groups.proofs.Picking.{picked-on, picked-off, picked-long, ticks-on, ticks-off, ticks-le}
+use Rattle.assignment.specs.Picks.{bears, Laid, groupRow, groupTable, Gathered}
 
 -- ---- laying
 pub laid-none : {A : Type 0} (size : ℕ) (l : List A) (k : ℕ) → length l ≡ size → Laid size l l k k []
@@ -68,28 +25,6 @@ laid-more size before l k r p x h q = record {
   end = rw (length-append p (x ∷ [])) (let e = q .end in omega arith);
   is = rw (add-one r) (take-suc-set l r x (rw (q .long) h) ∙ ap (λ (t : List _). t ++ (x ∷ [])) (q .is) ∙ append-assoc (take k before) p (x ∷ []));
 }
-
--- ---- a mask's pick
-strike-take : {A : Type 0} (d : A) (k : List Bool) (l : List A) (n : ℕ) → n < length k → n < length l → strike (take (suc n) k) (take (suc n) l) ≡ addIf (getD k n false) (getD l n d) (strike (take n k) (take n l))
-unfolding strike
-strike-take d [] l n h g = absurd (omega arith)
-strike-take d (b ∷ k) [] n h g = absurd (omega arith)
-strike-take d (true ∷ k) (x ∷ l) zero h g = refl
-strike-take d (false ∷ k) (x ∷ l) zero h g = refl
-strike-take d (true ∷ k) (x ∷ l) (suc n) h g = ap (λ (t : List _). x ∷ t) (strike-take d k l n (omega arith) (omega arith)) ∙ out (getD k n false)
-  where
-    out : (c : Bool) → x ∷ addIf c (getD l n d) (strike (take n k) (take n l)) ≡ addIf c (getD l n d) (x ∷ strike (take n k) (take n l))
-    out true = refl
-    out false = refl
-strike-take d (false ∷ k) (x ∷ l) (suc n) h g = strike-take d k l n (omega arith) (omega arith)
-
-strike-upto : {A : Type 0} (d : A) (k : List Bool) (l : List A) (n : ℕ) → n ≤ length k → n ≤ length l → strike (take n k) (take n l) ≡ picked (λ i. getD k i false) (λ i. getD l i d) n
-unfolding picked strike
-strike-upto d k l zero h g = refl
-strike-upto d k l (suc n) h g = strike-take d k l n h g ∙ ap (addIf (getD k n false) (getD l n d)) (strike-upto d k l n (omega arith) (omega arith))
-
-pub strike-picked : {A : Type 0} (d : A) (k : List Bool) (l : List A) (n : ℕ) → length k ≡ n → length l ≡ n → strike k l ≡ picked (λ i. getD k i false) (λ i. getD l i d) n
-strike-picked d k l n h g = ap₂ (λ (a : List Bool) (b : List _). strike a b) (sym (take-all n k (rw h (omega arith)))) (sym (take-all n l (rw g (omega arith)))) ∙ strike-upto d k l n (rw h (omega arith)) (rw g (omega arith))
 
 -- ---- a table, row after row
 pub inOne-snoc : {A : Type 0} (t : List (List A)) (r : List A) → inOne (t ++ (r ∷ [])) ≡ inOne t ++ r

@@ -26,10 +26,12 @@ use Rattle.hungarian.specs.Structs.{squareFrom}
 use Rattle.hungarian.specs.declared.Run.{Run}
 use Rattle.hungarian.specs.declared.Shape.{Shape}
 use Rattle.hungarian.proofs.Replies.{checked}
-use Rattle.assignment.specs.Picks.{picked, ticks, bears, groupRow, groupTable, Gathered}
-use Rattle.assignment.specs.Taking.{takersOf, replyIf, ownReply, Call, Taken, GroupTaken, AllTaken}
-use Rattle.assignment.proofs.Picking.{picked-long, ticks-le}
-use Rattle.assignment.proofs.Groupings.{picked-all, table-is, members-is, unborne, no-column, some-column, some-row, taken-is}
+use Rattle.groups.specs.Picks.{ticks}
+use Rattle.groups.specs.Solvers.{ownReply}
+use Rattle.groups.proofs.Picking.{picked-long, picked-all, ticks-le}
+use Rattle.assignment.specs.Picks.{bears, groupRow, groupTable, Gathered}
+use Rattle.assignment.specs.Taking.{takersOf, replyIf, Call, Taken, GroupTaken, AllTaken}
+use Rattle.assignment.proofs.Groupings.{table-is, members-is, unborne, no-column, some-column, some-row, taken-is}
 
 -- ---- what the run ends with
 pub record Ended (x : Search Float) (p : List ℕ) : Type 0 where

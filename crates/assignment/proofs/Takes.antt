@@ -8,9 +8,10 @@ use native.Mathlib.Omega.{arith}
 use borrow.Author.Tests.{lt-ltb, le-ltb}
 use lib.ListN.{getD, set, length, length-set}
 use lib.Seq.{getD-set-same, getD-set-other}
-use Rattle.assignment.specs.Picks.{ticks, bears}
+use Rattle.groups.specs.Picks.{ticks}
+use Rattle.groups.proofs.Picking.{ticks-on, ticks-off}
+use Rattle.assignment.specs.Picks.{bears}
 use Rattle.assignment.specs.Taking.{takerNumber, Taken}
-use Rattle.assignment.proofs.Picking.{ticks-on, ticks-off}
 
 pub taker-in : (members : List ℕ) (r t : ℕ) → (t ≡ 0 → ⊥) → t - 1 < r → getD members (t - 1) 0 ≡ takerNumber members r t
 taker-in members r zero n h = absurd (n refl)

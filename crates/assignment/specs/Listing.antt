@@ -6,9 +6,11 @@ use mathlib.Core.Option.{Option, none, some}
 use Prim.Native.Nat.{ℕ, zero, suc, _+_, _-_, _≤_}
 use lib.ListN.{length, take, replicate}
 use lib.Dec.{eqb, ltb}
+use lib.Ieee.{Float}
 use Rattle.number.specs.Reply.{Reply, refused, given}
 use Rattle.kuhn_munkres.specs.Strike.{zipped}
-use Rattle.kuhn_munkres.specs.Assignment.{Pair, Pairs, columnOf, pairsFrom, freeRows, freeColumns}
+use Rattle.kuhn_munkres.specs.Assignment.{Pair, Pairs, columnOf, pairsFrom, freeRows, freeColumns, assignmentReply}
+use Rattle.least.specs.Least.{LeastOnWholes}
 use Rattle.assignment.specs.Replies.{replyOf}
 use Rattle.assignment.specs.declared.Assignment.{Assignment}
 use Rattle.assignment.specs.declared.Assigned.{Assigned}
@@ -68,11 +70,13 @@ pub record Once (n m : ℕ) (a : Pairs) : Type 0 where
   pub rows-ascend : Ascending 0 (a .rows)
   pub columns-ascend : Ascending 0 (a .columns)
 
--- The whole reply for n rows and m columns: 01's number or the pairs and lists; every place of the arrays; and each row and column once.
-pub record AssignmentAnswer (n m : ℕ) (reply : Reply Pairs) (r : Assigned) : Type 0 where
-  pub is : replyOf (r .outcome) (pairsIn (r .assignment)) ≡ reply
-  pub whole : r .assignment ≡ assignmentFor reply
-  pub once : (a : Pairs) → reply ≡ given a → Once n m a
+-- The whole reply for n rows and m columns: 01's number or the pairs and lists; every place of the arrays; each row and column once; and on whole costs the
+-- least total.
+pub record AssignmentAnswer (costs : List Float) (n m : ℕ) (rowCost columnCost : Float) (r : Assigned) : Type 0 where
+  pub is : replyOf (r .outcome) (pairsIn (r .assignment)) ≡ assignmentReply costs n m rowCost columnCost
+  pub whole : r .assignment ≡ assignmentFor (assignmentReply costs n m rowCost columnCost)
+  pub once : (a : Pairs) → assignmentReply costs n m rowCost columnCost ≡ given a → Once n m a
+  pub least : LeastOnWholes costs n m rowCost columnCost (assignmentReply costs n m rowCost columnCost)
 
 -- the column that row i takes is the r-th of m, or none where r is m
 pub record ColumnFound (takers : List (Option ℕ)) (m i r : ℕ) : Type 0 where

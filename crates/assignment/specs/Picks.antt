@@ -1,27 +1,13 @@
--- What a pass over numbered places keeps, in order, and how the arrays of the code hold it.
+-- The places and the own table of a group by its names, and how the arrays of the code hold what a pass keeps of them.
 use mathlib.Core.Path.{_≡_}
-use mathlib.Core.Bool.{Bool, true, false, cond}
-use mathlib.Core.List.{List, [], _∷_, _++_, map}
-use mathlib.Core.Option.{Option}
-use Prim.Native.Nat.{ℕ, zero, suc, _+_, _*_, _≤_, _<_}
+use mathlib.Core.Bool.{Bool}
+use mathlib.Core.List.{List, _++_}
+use Prim.Native.Nat.{ℕ, _+_, _*_}
 use lib.ListN.{getD, length, take}
 use lib.Dec.{eqb}
 use lib.Ieee.{Float, nan}
 use Rattle.kuhn_munkres.specs.Assignment.{inOne}
-
-abbrev pub addIf : {A : Type 0} → Bool → A → List A → List A
-addIf true x l = l ++ (x ∷ [])
-addIf false x l = l
-
--- f's values at the places below n that the mask names
-unfoldable pub picked : {A : Type 0} → (ℕ → Bool) → (ℕ → A) → ℕ → List A
-picked m f zero = []
-picked m f (suc n) = addIf (m n) (f n) (picked m f n)
-
--- how many places below n the mask names
-unfoldable pub ticks : (ℕ → Bool) → ℕ → ℕ
-ticks m zero = 0
-ticks m (suc n) = cond (m n) (suc (ticks m n)) (ticks m n)
+use Rattle.groups.specs.Picks.{picked, ticks}
 
 -- the places whose name is g
 abbrev pub bears : List ℕ → ℕ → ℕ → Bool

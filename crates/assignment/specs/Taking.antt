@@ -9,12 +9,13 @@ use lib.Dec.{eqb, ltb}
 use lib.Ieee.{Float}
 use lib.Ieee.Scale.{finite}
 use Rattle.number.specs.Reply.{Reply, refused, given}
-use Rattle.kuhn_munkres.specs.Binary64.{float}
 use Rattle.kuhn_munkres.specs.Strike.{upFrom, anyOf}
-use Rattle.kuhn_munkres.specs.Groups.{Labels, labels, isLabel}
-use Rattle.kuhn_munkres.specs.Assignment.{rowsOf, solved, squareOf, groupIn, groups, same}
+use Rattle.kuhn_munkres.specs.Groups.{labels, isLabel}
+use Rattle.kuhn_munkres.specs.Assignment.{rowsOf, groupIn, groups, same}
+use Rattle.groups.specs.Picks.{ticks}
+use Rattle.groups.specs.Solvers.{ownReply}
 use Rattle.assignment.specs.Labelling.{rowOr, NamedBy}
-use Rattle.assignment.specs.Picks.{ticks, bears}
+use Rattle.assignment.specs.Picks.{bears}
 
 -- the row of the whole table for the row t of a group's square, which has r rows of its own; rows of a square count from 1
 abbrev pub takerNumber : List ℕ → ℕ → ℕ → ℕ
@@ -34,10 +35,6 @@ pub record Taken (names : List ℕ) (g m : ℕ) (p : List ℕ) (r : ℕ) (member
 abbrev pub replyIf : {A : Type 0} → Bool → A → Reply A
 replyIf true a = given a
 replyIf false a = refused 10
-
--- one group's own square, solved
-abbrev pub ownReply : Float → Float → Float → List (List Float) → Reply (List (Option ℕ))
-ownReply far rowCost columnCost table = solved float (squareOf far rowCost columnCost table)
 
 -- the call's table and its groups' names
 pub record Call (costs : List Float) (n m : ℕ) (rowNames columnNames : List ℕ) : Type 0 where

@@ -1,5 +1,5 @@
 // The least-cost pairing of rows with columns, and who is left: joined groups, each by the steps of `hungarian_square`.
-mod groups;
+mod joining;
 mod lists;
 mod table;
 mod takers;
@@ -129,7 +129,7 @@ pub fn linear_assignment(
     unmatched_row_cost: f64,
     unmatched_column_cost: f64,
 ) -> Assigned
-    ensures { λ r. ⌜ AssignmentAnswer rows columns (assignmentReply (now (costs .entry)) rows columns «unmatched_row_cost» «unmatched_column_cost») r ⌝ }
+    ensures { λ r. ⌜ AssignmentAnswer (now (costs .entry)) rows columns «unmatched_row_cost» «unmatched_column_cost» r ⌝ }
 {
     let mut takers = [64usize; 64];
     match pair_columns(

@@ -4,7 +4,8 @@ ghost use Prim.Native.Nat.{_+_, _*_, _≤_, _<_};
 ghost use lib.ListN.{length, getD};
 ghost use lib.Ieee.{nan};
 ghost use Rattle.kuhn_munkres.specs.Assignment.{largest, sentinelOf};
-ghost use Rattle.assignment.specs.Picks.{picked, ticks, bears, Laid, Gathered};
+ghost use Rattle.groups.specs.Picks.{picked, ticks};
+ghost use Rattle.assignment.specs.Picks.{bears, Laid, Gathered};
 
 // The largest of the finite costs and `first`.
 pub fn largest_finite(costs: &[f64], first: f64) -> f64

@@ -161,7 +161,7 @@ pub fn pair_table(
     requires { ⌜ (rows ≤ 64) × (columns ≤ 64) × (length (now costs) ≡ rows * columns) × (now takers ≡ replicate 64 64) ⌝ }
     ensures { λ ok. ⌜ (replyIf ok (takersOf columns (now (takers .exit))) ≡ pairing «row_cost» «column_cost» (rowsOf rows columns (now (costs .entry))) columns) × (length (now (takers .exit)) ≡ 64) ⌝ }
 {
-    let names = crate::groups::named_groups(costs, rows, columns);
+    let names = crate::joining::named_groups(costs, rows, columns);
     let row_names = names.of_rows;
     let column_names = names.of_columns;
     let largest = crate::table::largest_finite(costs, number::float::larger(row_cost, column_cost));

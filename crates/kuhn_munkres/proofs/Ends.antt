@@ -7,11 +7,12 @@ use Prim.Native.Nat.{ℕ, zero, suc, _+_, _≤_, _<_, zero-le}
 use native.Mathlib.Decide.{ℕ-discrete}
 use native.Mathlib.Omega.{arith}
 use lib.Dec.{eqb}
-use lib.ListN.{getD, set, length, length-set, replicate}
+use lib.ListN.{getD, set, length, length-set}
 use lib.Seq.{getD-set-same, getD-set-other}
 use Rattle.kuhn_munkres.specs.Ops.{Ops}
-use Rattle.kuhn_munkres.specs.Steps.{State, Search, found, stopped, spent, relax, scan, shift, mark, look, go-on, step, turned, search, start, enter, leave, rows, size}
-use Rattle.kuhn_munkres.proofs.Places.{scan-kept, shift-kept}
+use Rattle.kuhn_munkres.specs.Steps.{State, Search, found, stopped, spent, relax, scan, mark, look, step, turned, search, start, enter, leave, rows, size}
+use Rattle.kuhn_munkres.proofs.Marks.{all-alike}
+use Rattle.kuhn_munkres.proofs.Kept.{turn-used, turn-j0}
 
 -- how many of the first k places are not marked
 pub unmarked : List Bool → ℕ → ℕ
@@ -86,10 +87,10 @@ module _ {N : Type 0} (O : Ops N) where
         x = step O n t
 
         used-x : x .used ≡ set (s .used) (s .j0) true
-        used-x = unfold step go-on look mark in (shift-kept O t (n + 1) .used-same ∙ scan-kept O (a i0) (getD (s .u) i0 (O .out)) (mark O s) n .used-is)
+        used-x = turn-used O a n s
 
         j0-x : x .j0 ≡ t .j1
-        j0-x = unfold step go-on in shift-kept O t (n + 1) .j1-same
+        j0-x = turn-j0 O a n s
 
         go : (b : Bool) → O .finite (t .delta) ≡ b → (free : Bool) → turned O b free x (search O a n k x) ≡ spent → From (mark O s) n t
             → (x .j0 ≤ n → getD (x .used) (x .j0) false ≡ false → n < length (x .used) → unmarked (x .used) (n + 1) ≤ k → search O a n k x ≡ spent → ⊥) → ⊥
@@ -111,13 +112,8 @@ module _ {N : Type 0} (O : Ops N) where
           go true h = omega arith
           go false h = omega arith
 
-      unused : (m j : ℕ) → getD (replicate m false) j false ≡ false
-      unused zero j = refl
-      unused (suc m) zero = refl
-      unused (suc m) (suc j) = unused m j
-
       start-ends : (i : ℕ) (s : State N) → search O a n (n + 1) (start O i s) ≡ spent → ⊥
-      start-ends i s e = never-spent (n + 1) (start O i s) (unfold start in zero-le) (unfold start in unused size 0) (unfold start in fits) (unmarked-le ((start O i s) .used) (n + 1)) e
+      start-ends i s e = never-spent (n + 1) (start O i s) (unfold start in zero-le) (unfold start in all-alike false size 0) (unfold start in fits) (unmarked-le ((start O i s) .used) (n + 1)) e
 
       pub rows-end : (k : ℕ) → rows O a n k ≡ spent → ⊥
       unfolding rows

@@ -17,7 +17,7 @@ use Rattle.kuhn_munkres.specs.Assignment.{larger, largest, largestOf, se
 
 -- ---- replies and masks
 module _ {A B : Type 0} where
-  bound : (r : Reply A) (f : A → Reply B) (y : B) → bind r f ≡ given y → (x : A) × (r ≡ given x) × (f x ≡ given y)
+  pub bound : (r : Reply A) (f : A → Reply B) (y : B) → bind r f ≡ given y → (x : A) × (r ≡ given x) × (f x ≡ given y)
   unfolding bind
   bound (refused n) f y e = absurd (let z : _≡_ {A = ℕ} 0 1 = cc in omega arith)
   bound (given x) f y e = (x, refl, e)
@@ -51,7 +51,7 @@ module _ {A B : Type 0} where
   zipped-strike f (true ∷ k) (x ∷ a) (y ∷ l) = ap {B = List _} (λ r. f x y ∷ r) (zipped-strike f k a l)
   zipped-strike f (false ∷ k) (x ∷ a) (y ∷ l) = zipped-strike f k a l
 
-given-same : {A : Type 0} (x y : A) → given x ≡ given y → x ≡ y
+pub given-same : {A : Type 0} (x y : A) → given x ≡ given y → x ≡ y
 given-same x y e = cc
 
 strike-nil : {A : Type 0} (k : List Bool) → _≡_ {A = List A} (strike k []) []

@@ -9,7 +9,7 @@ use lib.ListN.{getD, set, length, length-set}
 use Rattle.kuhn_munkres.specs.Ops.{Ops}
 use Rattle.kuhn_munkres.specs.Steps.{State, Search, found, stopped, spent, mark, look, go-on, step, turned, search, start, settle, fresh, enter, leave, rows, size}
 use Rattle.kuhn_munkres.proofs.Ranges.{shift-p, back-length}
-use Rattle.kuhn_munkres.proofs.Places.{scan-kept}
+use Rattle.kuhn_munkres.proofs.Places.{scan-kept, shift-kept}
 
 module _ {N : Type 0} (O : Ops N) where
   -- the same holds of a state that is found
@@ -22,7 +22,24 @@ module _ {N : Type 0} (O : Ops N) where
   unfolding AllFound
   of-found P x s e h = subst (AllFound P) e h
 
-  turn-p : (a : ℕ → ℕ → N) (n : ℕ) (s : State N) → (step O n (look O a n s)) .p ≡ s .p
+  -- ---- a turn: the column looked at is marked, the step leaves the marks and the paths, and goes on at the column chosen
+  pub look-used : (a : ℕ → ℕ → N) (n : ℕ) (s : State N) → (look O a n s) .used ≡ set (s .used) (s .j0) true
+  unfolding look mark
+  look-used a n s = scan-kept O (a (getD (s .p) (s .j0) 0)) (getD (s .u) (getD (s .p) (s .j0) 0) (O .out)) (mark O s) n .used-is
+
+  pub turn-used : (a : ℕ → ℕ → N) (n : ℕ) (s : State N) → (step O n (look O a n s)) .used ≡ set (s .used) (s .j0) true
+  unfolding step go-on
+  turn-used a n s = shift-kept O (look O a n s) (n + 1) .used-same ∙ look-used a n s
+
+  pub turn-way : (a : ℕ → ℕ → N) (n : ℕ) (s : State N) → (step O n (look O a n s)) .way ≡ (look O a n s) .way
+  unfolding step go-on
+  turn-way a n s = shift-kept O (look O a n s) (n + 1) .way-same
+
+  pub turn-j0 : (a : ℕ → ℕ → N) (n : ℕ) (s : State N) → (step O n (look O a n s)) .j0 ≡ (look O a n s) .j1
+  unfolding step go-on
+  turn-j0 a n s = shift-kept O (look O a n s) (n + 1) .j1-same
+
+  pub turn-p : (a : ℕ → ℕ → N) (n : ℕ) (s : State N) → (step O n (look O a n s)) .p ≡ s .p
   unfolding step go-on look mark
   turn-p a n s = shift-p O (look O a n s) (n + 1) ∙ scan-kept O (a (getD (s .p) (s .j0) 0)) (getD (s .u) (getD (s .p) (s .j0) 0) (O .out)) (mark O s) n .p-is
 

@@ -37,13 +37,21 @@ map-at f [] j a b h = absurd (omega arith)
 map-at f (x ∷ l) zero a b h = refl
 map-at f (x ∷ l) (suc j) a b h = map-at f l j a b (omega arith)
 
-none-some : {A : Type 0} {x : A} {B : Type 0} → none ≡ some x → B
+pub none-some : {A : Type 0} {x : A} {B : Type 0} → none ≡ some x → B
 none-some e = absurd (let z : _≡_ {A = ℕ} 0 1 = cc in omega arith)
 
-some-in : (l : List (Option ℕ)) (j x : ℕ) → getD l j none ≡ some x → j < length l
+pub some-same : {A : Type 0} {a b : A} → some a ≡ some b → a ≡ b
+some-same e = cc
+
+pub some-in : (l : List (Option ℕ)) (j x : ℕ) → getD l j none ≡ some x → j < length l
 some-in [] j x e = none-some e
 some-in (o ∷ l) zero x e = omega arith
 some-in (o ∷ l) (suc j) x e = let r = some-in l j x e in omega arith
+
+pub nones-at : (w j : ℕ) → _≡_ {A = Option ℕ} (getD (replicate w none) j none) none
+nones-at zero j = refl
+nones-at (suc w) zero = refl
+nones-at (suc w) (suc j) = nones-at w j
 
 -- ---- what a row touches
 module _ {F : Type 0} (finite : F → Bool) (d : F) (no-cost : finite d ≡ false) where
@@ -170,16 +178,13 @@ module _ {F : Type 0} (finite : F → Bool) (d : F) (no-cost : finite d ≡ fals
         owns x h (yes e) = rw (e, row-new, row-new)
         owns x h (no g) = let q : x < i = omega arith in rw (row-before x q) (own (getD (s .ofRows) x 0) (n .row-low x q) (n .row-own x q) .1)
 
-        some-same : (a b : ℕ) → some a ≡ some b → a ≡ b
-        some-same a b e = cc
-
         col : (j l : ℕ) → j < w → getD (join finite i row s .ofColumns) j none ≡ some l → (l < suc i) × (getD (join finite i row s .ofRows) l 0 ≡ l)
         col j l h e = go (finite (getD row j d)) (getD (s .ofColumns) j none) refl refl (sym (col-new j h) ∙ e)
           where
             go : (b : Bool) (o : Option ℕ) → finite (getD row j d) ≡ b → getD (s .ofColumns) j none ≡ o → joinedTo finite hs i (getD row j d) (getD (s .ofColumns) j none) ≡ some l → (l < suc i) × (getD (join finite i row s .ofRows) l 0 ≡ l)
-            go true o q r z = let a : i ≡ l = some-same i l (rw q at z) in rw (← a) (omega arith, row-new)
+            go true o q r z = let a : i ≡ l = some-same (rw q at z) in rw (← a) (omega arith, row-new)
             go false none q r z = none-some (rw (q, r) at z)
-            go false (some m) q r z = let a : relabel hs i m ≡ l = some-same (relabel hs i m) l (rw (q, r) at z) in rw (← a) (own m (n .col-low j m r) (n .col-own j m r))
+            go false (some m) q r z = let a : relabel hs i m ≡ l = some-same (rw (q, r) at z) in rw (← a) (own m (n .col-low j m r) (n .col-own j m r))
 
   -- ---- all rows
   pub named-alone : (w : ℕ) → Named 0 w (alone finite w)
@@ -189,17 +194,12 @@ module _ {F : Type 0} (finite : F → Bool) (d : F) (no-cost : finite d ≡ fals
     row-low = λ x h. absurd (under x h);
     row-up = λ x h. absurd (under x h);
     row-own = λ x h. absurd (under x h);
-    col-low = λ j l e. none-some (sym (no-label w j) ∙ e);
-    col-own = λ j l e. none-some (sym (no-label w j) ∙ e);
+    col-low = λ j l e. none-some (sym (nones-at w j) ∙ e);
+    col-own = λ j l e. none-some (sym (nones-at w j) ∙ e);
   }
     where
       under : (x : ℕ) → x < 0 → ⊥
       under x h = omega arith
-
-      no-label : (w j : ℕ) → _≡_ {A = Option ℕ} (getD (replicate w none) j none) none
-      no-label zero j = refl
-      no-label (suc w) zero = refl
-      no-label (suc w) (suc j) = no-label w j
 
   joins-snoc : (k : ℕ) (rows : List (List F)) (r : List F) (s : Labels) → joins finite k (rows ++ (r ∷ [])) s ≡ join finite (k + length rows) r (joins finite k rows s)
   unfolding joins

@@ -1,9 +1,12 @@
+pub mod Marks
 pub mod Ranges
 pub mod Places
 pub mod Ends
 pub mod Back
 pub mod Examples
 pub mod Labels
+pub mod Columns
 pub mod Kept
 pub mod Matched
+pub mod Top
 pub mod FarColumns

@@ -8,15 +8,16 @@ use native.Mathlib.Decide.{ℕ-discrete}
 use native.Mathlib.Omega.{arith}
 use borrow.Author.Tests.{eq-eqb, ne-eqb, eqb-true, eqb-false}
 use lib.Dec.{eqb}
-use lib.ListN.{getD, set, length, length-set, replicate, getD-replicate}
+use lib.ListN.{getD, set, length, length-set, getD-replicate}
 use lib.Seq.{getD-set-same, getD-set-other}
 use Rattle.kuhn_munkres.specs.Ops.{Ops}
 use Rattle.kuhn_munkres.specs.Ranges.{Sane}
-use Rattle.kuhn_munkres.specs.Steps.{State, Search, found, stopped, spent, relax, scan, shift, mark, look, go-on, step, turned, search, back, start, settle, fresh, enter, leave, rows, size}
+use Rattle.kuhn_munkres.specs.Steps.{State, Search, found, stopped, spent, relax, scan, mark, look, go-on, step, turned, search, back, start, settle, fresh, enter, leave, rows, size}
+use Rattle.kuhn_munkres.proofs.Marks.{all-alike, mark-set, mark-cases, mark-more, mark-less}
 use Rattle.kuhn_munkres.proofs.Ranges.{look-sane, step-sane, start-sane, settle-sane, fresh-sane, back-length}
 use Rattle.kuhn_munkres.proofs.Places.{Looked, scan-kept, scan-ahead, scan-used, scan-looked, shift-kept, shift-minv, cur, falls, best}
 use Rattle.kuhn_munkres.proofs.Back.{On, here, there, Down, last, more, back-at, back-off, back-last, back-more, same-next, next-on, on?}
-use Rattle.kuhn_munkres.proofs.Kept.{AllFound, of-found, all-map, search-p}
+use Rattle.kuhn_munkres.proofs.Kept.{AllFound, of-found, all-map, search-p, look-used, turn-used, turn-way, turn-p, turn-j0}
 
 module _ {N : Type 0} (O : Ops N) where
   -- where the scan's step comes from, with no law of order
@@ -87,47 +88,34 @@ module _ {N : Type 0} (O : Ops N) where
       j0-in = let b = S .used-long in let c = S .sane .j0-le in omega arith
 
       on-j0 : getD (set (s .used) (s .j0) true) (s .j0) false ≡ true
-      on-j0 = getD-set-same (s .used) (s .j0) true false j0-in
+      on-j0 = mark-set (s .used) (s .j0) j0-in
 
-      -- used after the mark: j0, and those before
       on-cases : (k : ℕ) → getD (set (s .used) (s .j0) true) k false ≡ true → (k ≡ s .j0) ⊎ (getD (s .used) k false ≡ true)
-      on-cases k h = go (ℕ-discrete k (s .j0))
-        where
-          go : Dec (k ≡ s .j0) → (k ≡ s .j0) ⊎ (getD (s .used) k false ≡ true)
-          go (yes e) = inl e
-          go (no g) = inr (sym (getD-set-other (s .used) (s .j0) k true false g) ∙ h)
+      on-cases = mark-cases (s .used) (s .j0) j0-in
 
       on-more : (k : ℕ) → getD (s .used) k false ≡ true → getD (set (s .used) (s .j0) true) k false ≡ true
-      on-more k h = go (ℕ-discrete k (s .j0))
-        where
-          go : Dec (k ≡ s .j0) → getD (set (s .used) (s .j0) true) k false ≡ true
-          go (yes e) = rw e on-j0
-          go (no g) = getD-set-other (s .used) (s .j0) k true false g ∙ h
+      on-more = mark-more (s .used) (s .j0) j0-in
 
       off-less : (k : ℕ) → getD (set (s .used) (s .j0) true) k false ≡ false → getD (s .used) k false ≡ false
-      off-less k h = go (getD (s .used) k false) refl
-        where
-          go : (b : Bool) → getD (s .used) k false ≡ b → b ≡ false
-          go true e = absurd (true≢false (sym (on-more k e) ∙ h))
-          go false e = refl
+      off-less = mark-less (s .used) (s .j0) j0-in
 
       abbrev used' : List Bool
       used' = set (s .used) (s .j0) true
 
       x-used : x .used ≡ used'
-      x-used = unfold step go-on look mark in (shift-kept O l (n + 1) .used-same ∙ scan-kept O (a i0) ui m n .used-is)
+      x-used = turn-used O a n s
 
       l-used : l .used ≡ used'
-      l-used = unfold look mark in scan-kept O (a i0) ui m n .used-is
+      l-used = look-used O a n s
 
       x-way : x .way ≡ l .way
-      x-way = unfold step go-on in shift-kept O l (n + 1) .way-same
+      x-way = turn-way O a n s
 
       x-p : x .p ≡ s .p
-      x-p = unfold step go-on look mark in (shift-kept O l (n + 1) .p-same ∙ scan-kept O (a i0) ui m n .p-is)
+      x-p = turn-p O a n s
 
       x-j0 : x .j0 ≡ l .j1
-      x-j0 = unfold step go-on in shift-kept O l (n + 1) .j1-same
+      x-j0 = turn-j0 O a n s
 
       minv-in : n < length (l .minv)
       minv-in = unfold look mark in (rw (scan-kept O (a i0) ui m n .minv-long) (S .minv-long))
@@ -309,6 +297,12 @@ module _ {N : Type 0} (O : Ops N) where
       on-used o (more z h g t d) here = (z, omega arith, S .tree _ z (omega arith) o .0)
       on-used o (more z h g t d) (there g' w) = on-used (inl (S .tree _ z (omega arith) o .0)) d w
 
+      -- a column on the path is used, or the one reached
+      on-marked : {k j i : ℕ} → (getD (s .used) j false ≡ true) ⊎ (j ≡ s .j0) → Down O (s .way) (S .time) (n + 1) k j → On (s .way) j i → (getD (s .used) i false ≡ true) ⊎ (i ≡ s .j0)
+      on-marked o d here = o
+      on-marked o (last z h e) (there g w) = absurd (g e)
+      on-marked o (more z h g t d) (there g' w) = on-marked (inl (S .tree _ z (omega arith) o .0)) d w
+
       module _ (few : bound ≤ n + 1) (long : n < length (s .p)) where
         abbrev P' : ℕ → ℕ
         P' i = getD ((settle O n s) .p) i 0
@@ -321,6 +315,14 @@ module _ {N : Type 0} (O : Ops N) where
 
         at-off : (i : ℕ) → (On (s .way) (s .j0) i → ⊥) → P' i ≡ P i
         at-off i o = ap (λ (l : List ℕ). getD l i 0) settled ∙ back-off O (s .way) (S .time) (n + 1) (s .p) D i o
+
+        -- the path takes the column reached and used ones, and gives each the row that it came from
+        pub settled-at : (i : ℕ) → ((P' i ≡ P (W i)) × ((getD (s .used) i false ≡ true) ⊎ (i ≡ s .j0))) ⊎ ((P' i ≡ P i) × (i ≡ s .j0 → ⊥))
+        settled-at i = go (on? O (s .way) (S .time) (n + 1) D i)
+          where
+            go : Dec (On (s .way) (s .j0) i) → ((P' i ≡ P (W i)) × ((getD (s .used) i false ≡ true) ⊎ (i ≡ s .j0))) ⊎ ((P' i ≡ P i) × (i ≡ s .j0 → ⊥))
+            go (yes o) = inl (at-on i o, on-marked (inr refl) D o)
+            go (no f) = inr (at-off i f, λ e. f (subst (λ (j : ℕ). On (s .way) (s .j0) j) (sym e) here))
 
         leads : (i : ℕ) → On (s .way) (s .j0) i → P (W i) ≡ 0 → ⊥
         leads i o = S .row (W i) (on-used (inr refl) D o .2)
@@ -361,16 +363,16 @@ module _ {N : Type 0} (O : Ops N) where
       p-is : b .p ≡ set (s .p) 0 (k + 1)
       p-is = unfold start in refl
 
-      at-zero : getD (b .p) 0 0 ≡ k + 1
+      pub at-zero : getD (b .p) 0 0 ≡ k + 1
       at-zero = rw p-is (getD-set-same (s .p) 0 (k + 1) 0 (let h = M .p-long in omega arith))
 
-      at-other : (j : ℕ) → 0 < j → getD (b .p) j 0 ≡ getD (s .p) j 0
+      pub at-other : (j : ℕ) → 0 < j → getD (b .p) j 0 ≡ getD (s .p) j 0
       at-other j z = rw p-is (getD-set-other (s .p) 0 j (k + 1) 0 (λ e. nonzero j z e))
         where
           nonzero : (j : ℕ) → 0 < j → j ≡ 0 → ⊥
           nonzero j z e = omega arith
 
-      all-low : (j : ℕ) → j ≤ n → getD (b .p) j 0 ≤ k + 1
+      pub all-low : (j : ℕ) → j ≤ n → getD (b .p) j 0 ≤ k + 1
       all-low j h = go (ℕ-discrete j 0)
         where
           go : Dec (j ≡ 0) → getD (b .p) j 0 ≤ k + 1
@@ -396,22 +398,17 @@ module _ {N : Type 0} (O : Ops N) where
               let zi : 0 < i = omega (arith, q) in
               M .one j i zj hj zi hi (λ w. f (at-other j zj ∙ w)) (sym (at-other j zj) ∙ e ∙ at-other i zi)
 
-      unused : (m j : ℕ) → getD (replicate m false) j false ≡ false
-      unused zero j = refl
-      unused (suc m) zero = refl
-      unused (suc m) (suc j) = unused m j
+      pub none-used : (j : ℕ) → getD (b .used) j false ≡ true → ⊥
+      none-used j h = true≢false (sym h ∙ (unfold start in all-alike false size j))
 
-      none-used : (j : ℕ) → getD (b .used) j false ≡ true → ⊥
-      none-used j h = true≢false (sym h ∙ (unfold start in unused size j))
-
-      start-shape : Shape n 0 b
+      pub start-shape : Shape n 0 b
       start-shape = record {
         time = λ j. 0;
         sane = start-sane O n (k + 1) s (omega arith) (M .sane);
         used-long = unfold start in fits;
         way-long = unfold start in M .way-long;
         minv-long = unfold start in fits;
-        off = unfold start in unused size 0;
+        off = unfold start in all-alike false size 0;
         row = λ j h e. none-used j h;
         one = start-one;
         tree = λ j z h o. elim o [ inl w ↦ absurd (none-used j w) | inr w ↦ absurd (not-first j z (unfold start in w)) ];
@@ -472,14 +469,9 @@ module _ {N : Type 0} (O : Ops N) where
       sane = fresh-sane O n;
       p-long = unfold fresh in fits;
       way-long = unfold fresh in fits;
-      low = λ j z h. unfold fresh in (rw (zeros size j) (omega arith));
-      one = λ j i zj hj zi hi f e. absurd (f (unfold fresh in zeros size j));
+      low = λ j z h. unfold fresh in (rw (all-alike {A = ℕ} 0 size j) (omega arith));
+      one = λ j i zj hj zi hi f e. absurd (f (unfold fresh in all-alike {A = ℕ} 0 size j));
     }
-      where
-        zeros : (m j : ℕ) → _≡_ {A = ℕ} (getD (replicate m 0) j 0) 0
-        zeros zero j = refl
-        zeros (suc m) zero = refl
-        zeros (suc m) (suc j) = zeros m j
 
     -- no row is given to two columns
     pub rows-matched : n < size → (k : ℕ) → k ≤ n → AllFound O (Matched k) (rows O a n k)

@@ -161,20 +161,30 @@ module _ {N : Type 0} (O : Ops N) where
     unfolding relax
     relax-j1 c t w = ap (λ (m : N). cond (O .lt (cond (O .lt (cur c) m) (cur c) m) (t .delta)) c (t .j1)) (w .minv-was)
 
-    module _ (irrefl : (x : N) → O .lt x x ≡ false) (trans : (x y z : N) → O .lt x y ≡ true → O .lt y z ≡ true → O .lt x z ≡ true) where
+    -- the laws of order are asked of the numbers that the scan compares: R holds of them
+    module _ (R : N → Type 0) (irrefl : (x : N) → R x → O .lt x x ≡ false) (trans : (x y z : N) → R x → R y → R z → O .lt x y ≡ true → O .lt y z ≡ true → O .lt x z ≡ true) (first : R (s .delta)) where
+      abbrev Bests : ℕ → Type 0
+      Bests k = (j : ℕ) → 0 < j → j ≤ k → getD (s .used) j false ≡ false → R (best j)
+
       -- what is not below y is not below a z that is below y
-      lower : (x y z : N) → O .lt x y ≡ false → O .lt z y ≡ true → O .lt x z ≡ false
-      lower x y z f t = go (O .lt x z) refl
+      lower : (x y z : N) → R x → R y → R z → O .lt x y ≡ false → O .lt z y ≡ true → O .lt x z ≡ false
+      lower x y z p q r f t = go (O .lt x z) refl
         where
           go : (b : Bool) → O .lt x z ≡ b → b ≡ false
-          go true e = sym (trans x z y e t) ∙ f
+          go true e = sym (trans x z y p r q e t) ∙ f
           go false e = refl
 
-      relax-chosen : (k : ℕ) (t : State N) → As-was t (k + 1) → getD (s .used) (k + 1) false ≡ false → Chosen k t → Chosen (suc k) (relax O (k + 1) (cur (k + 1)) t)
-      relax-chosen k t w f h = go (O .lt (best (k + 1)) (t .delta)) refl (relax-delta (k + 1) t w) (relax-j1 (k + 1) t w)
+      delta-in : (k : ℕ) (t : State N) → Bests k → Chosen k t → R (t .delta)
+      delta-in k t bests h = elim (h .from) [ inl x ↦ rw (x .0) first | inr x ↦ rw (x .3) (bests (t .j1) (x .0) (x .1) (x .2)) ]
+
+      relax-chosen : (k : ℕ) (t : State N) → Bests (suc k) → As-was t (k + 1) → getD (s .used) (k + 1) false ≡ false → Chosen k t → Chosen (suc k) (relax O (k + 1) (cur (k + 1)) t)
+      relax-chosen k t bests w f h = go (O .lt (best (k + 1)) (t .delta)) refl (relax-delta (k + 1) t w) (relax-j1 (k + 1) t w)
         where
           r : State N
           r = relax O (k + 1) (cur (k + 1)) t
+
+          new : R (best (k + 1))
+          new = bests (k + 1) (omega arith) (omega arith) f
 
           up : ((t .delta ≡ s .delta) × (t .j1 ≡ s .j1)) ⊎ ((0 < t .j1) × (t .j1 ≤ k) × (getD (s .used) (t .j1) false ≡ false) × (t .delta ≡ best (t .j1))) → r .delta ≡ t .delta → r .j1 ≡ t .j1
               → ((r .delta ≡ s .delta) × (r .j1 ≡ s .j1)) ⊎ ((0 < r .j1) × (r .j1 ≤ suc k) × (getD (s .used) (r .j1) false ≡ false) × (r .delta ≡ best (r .j1)))
@@ -189,21 +199,22 @@ module _ {N : Type 0} (O : Ops N) where
               }
             where
               old : (i : ℕ) → 0 < i → i ≤ suc k → getD (s .used) i false ≡ false → Dec (i ≡ k + 1) → O .lt (best i) (best (k + 1)) ≡ false
-              old i z l g (yes q) = ap (λ (x : ℕ). O .lt (best x) (best (k + 1))) q ∙ irrefl (best (k + 1))
-              old i z l g (no q) = lower (best i) (t .delta) (best (k + 1)) (h .least i z (omega arith) g) e
+              old i z l g (yes q) = ap (λ (x : ℕ). O .lt (best x) (best (k + 1))) q ∙ irrefl (best (k + 1)) new
+              old i z l g (no q) =
+                  lower (best i) (t .delta) (best (k + 1)) (bests i z l g) (delta-in k t (λ y c m. bests y c (omega arith)) h) new (h .least i z (omega arith) g) e
           go false e d j = record { least = λ i z l g. rw d (old i z l g (ℕ-discrete i (k + 1))); from = up (h .from) d j }
             where
               old : (i : ℕ) → 0 < i → i ≤ suc k → getD (s .used) i false ≡ false → Dec (i ≡ k + 1) → O .lt (best i) (t .delta) ≡ false
               old i z l g (yes q) = ap (λ (x : ℕ). O .lt (best x) (t .delta)) q ∙ e
               old i z l g (no q) = h .least i z (omega arith) g
 
-      pub scan-chosen : (k : ℕ) → Chosen k (scan O a ui s k)
+      pub scan-chosen : (k : ℕ) → Bests k → Chosen k (scan O a ui s k)
       unfolding scan
-      scan-chosen zero = record { least = λ i z l g. absurd (none i z l); from = inl (refl, refl) }
+      scan-chosen zero bests = record { least = λ i z l g. absurd (none i z l); from = inl (refl, refl) }
         where
           none : (i : ℕ) → 0 < i → i ≤ 0 → ⊥
           none i z l = omega arith
-      scan-chosen (suc k) = go (getD (s .used) (k + 1) false) refl (scan-chosen k)
+      scan-chosen (suc k) bests = go (getD (s .used) (k + 1) false) refl (scan-chosen k (λ j z l. bests j z (omega arith)))
         where
           t : State N
           t = scan O a ui s k
@@ -222,7 +233,7 @@ module _ {N : Type 0} (O : Ops N) where
 
           go : (b : Bool) → getD (s .used) (k + 1) false ≡ b → Chosen k t → Chosen (suc k) (cond b t (relax O (k + 1) (cur (k + 1)) t))
           go true e h = skip h e
-          go false e h = relax-chosen k t (scan-ahead k (k + 1) (inr (omega arith))) e h
+          go false e h = relax-chosen k t bests (scan-ahead k (k + 1) (inr (omega arith))) e h
 
   -- ---- the step by delta
   module _ (s : State N) where

@@ -5,12 +5,13 @@ use mathlib.Core.List.{List, [], _∷_}
 use Prim.Native.Nat.{ℕ, zero, suc, _+_, _≤_, _<_, zero-le}
 use native.Mathlib.Omega.{arith}
 use lib.Dec.{eqb, lit<}
-use lib.ListN.{getD, set, length, replicate, length-set}
+use lib.ListN.{getD, set, length, length-set}
 use mathlib.Core.Logic.{inl, inr}
 use native.Mathlib.Nat.{eq-or-lt-of-le}
 use Rattle.kuhn_munkres.specs.Ops.{Ops}
 use Rattle.kuhn_munkres.specs.Ranges.{Sane}
 use Rattle.kuhn_munkres.specs.Steps.{State, relax, scan, shiftAt, shift, mark, look, go-on, step, turned, search, Search, found, stopped, spent, ended, back, start, settle, fresh, enter, leave, rows}
+use Rattle.kuhn_munkres.proofs.Marks.{all-alike}
 
 module _ {N : Type 0} (O : Ops N) where
   pub shift-p : (s : State N) (k : ℕ) → (shift O s k) .p ≡ s .p
@@ -159,12 +160,7 @@ module _ {N : Type 0} (O : Ops N) where
   pub fresh-sane : (n : ℕ) → Sane n (fresh O)
   unfolding fresh
   fresh-sane n =
-      record { p-some = lit< tt; p-le = λ k. rw (getD-none 129 k) zero-le; way-le = λ k. rw (getD-none 129 k) zero-le; j0-le = zero-le; j1-le = zero-le }
-    where
-      getD-none : (m k : ℕ) → _≡_ {A = ℕ} (getD (replicate m 0) k 0) 0
-      getD-none zero k = refl
-      getD-none (suc m) zero = refl
-      getD-none (suc m) (suc k) = getD-none m k
+      record { p-some = lit< tt; p-le = λ k. rw (all-alike {A = ℕ} 0 129 k) zero-le; way-le = λ k. rw (all-alike {A = ℕ} 0 129 k) zero-le; j0-le = zero-le; j1-le = zero-le }
 
   -- ---- once stopped, stopped
   pub rows-stopped : (a : ℕ → ℕ → N) (n k m : ℕ) → k ≤ m → rows O a n k ≡ stopped → rows O a n m ≡ stopped

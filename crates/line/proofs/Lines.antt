@@ -72,7 +72,10 @@ module _ (s : List ℕ) where
 pub mul-few : (r c : ℕ) → r ≤ 64 → c ≤ 64 → r * c ≤ 4096
 mul-few r c h g = let a : r * c ≤ 64 * c = mul-le-mul-right c h in omega arith
 
-module _ {n m : ℕ} (reply : Reply Pairs) (r : Assigned) (a : AssignmentAnswer n m reply r) where
+module _ (costs : List Float) {n m : ℕ} {rowCost columnCost : Float} (r : Assigned) (a : AssignmentAnswer costs n m rowCost columnCost r) where
+  abbrev reply : Reply Pairs
+  reply = assignmentReply costs n m rowCost columnCost
+
   pub reply-given : r .outcome ≡ Given → answerText (pairsIn (r .assignment)) ≡ textOf reply
   unfolding textOf
   reply-given e = rw (← a .is, e)

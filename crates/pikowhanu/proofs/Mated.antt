@@ -10,6 +10,8 @@ use lib.ListN.{length}
 use lib.Ieee.{Float}
 use Rattle.number.specs.Reply.{Reply, refused, given}
 use Rattle.kuhn_munkres.specs.Assignment.{Pairs, bind, pairsOf, pairsFrom, orElse, takersReply, assignmentReply}
+use Rattle.least.specs.Least.{LeastOnWholes}
+use Rattle.least.proofs.Answer.{assignment-least}
 use Rattle.assignment.specs.Listing.{padded, rowOf, columnIn, assignmentOf, assignmentFor, pairsIn, AssignmentAnswer}
 use Rattle.assignment.specs.Replies.{replyOf}
 use Rattle.assignment.specs.declared.Assignment.{Assignment}
@@ -46,7 +48,7 @@ module _ (costs : List Float) (n m : ℕ) (rowCost columnCost : Float) where
     pub held : PairsHeld takers n (r .assignment .«pair_rows») (r .assignment .«pair_columns») (r .assignment .«pair_count»)
     pub count-few : r .assignment .«pair_count» ≤ 64
 
-  pub paired : (r : Assigned) → AssignmentAnswer n m reply r → r .outcome ≡ Given → Paired r
+  pub paired : (r : Assigned) → AssignmentAnswer costs n m rowCost columnCost r → r .outcome ≡ Given → Paired r
   unfolding pairsOf
   paired r w o =
       let g : given (pairsIn (r .assignment)) ≡ reply = told (r .outcome) Given (pairsIn (r .assignment)) reply o (w .is) in
@@ -62,22 +64,27 @@ module _ (costs : List Float) (n m : ℕ) (rowCost columnCost : Float) where
       }
 
   module _ (before : List ℕ) where
-    -- no room
-    pub call-short : length before < n → AssignmentCall (matesReply costs n m rowCost columnCost (length before)) n 11 before before
-    unfolding matesReply
-    call-short h = rw (lt-ltb (length before) n h) (record { code = refl; mates = refl })
-
     enough : n ≤ length before → matesReply costs n m rowCost columnCost (length before) ≡ reply
     unfolding matesReply
     enough h = rw (le-ltb (length before) n h)
 
-    pub call-refused : (k : ℕ) (r : Assigned) → n ≤ length before → AssignmentAnswer n m reply r → ((p : Pairs) → replyOf (r .outcome) p ≡ refused k) → AssignmentCall (matesReply costs n m rowCost columnCost (length before)) n k before before
-    call-refused k r h w o =
-        let e : matesReply costs n m rowCost columnCost (length before) ≡ refused k = enough h ∙ sym (w .is) ∙ o (pairsIn (r .assignment)) in
-        rw e (record { code = refl; mates = refl })
+    -- where there is room, the call answers as the assignment does
+    least-call : n ≤ length before → LeastOnWholes costs n m rowCost columnCost (matesReply costs n m rowCost columnCost (length before))
+    least-call h = rw (enough h) (assignment-least costs n m rowCost columnCost)
 
-    pub call-given : (r : Assigned) (after : List ℕ) → n ≤ length before → Paired r → MatesWritten n (r .assignment .«pair_rows») (r .assignment .«pair_columns») (r .assignment .«pair_count») before after → AssignmentCall (matesReply costs n m rowCost columnCost (length before)) n 0 before after
+    -- a refusal by its number
+    declined : (k : ℕ) → matesReply costs n m rowCost columnCost (length before) ≡ refused k → AssignmentCall costs n m rowCost columnCost k before before
+    declined k e = record { code = rw e; mates = rw e; least = least-call }
+
+    -- no room
+    pub call-short : length before < n → AssignmentCall costs n m rowCost columnCost 11 before before
+    call-short h = declined 11 (unfold matesReply in (rw (lt-ltb (length before) n h)))
+
+    pub call-refused : (k : ℕ) (r : Assigned) → n ≤ length before → AssignmentAnswer costs n m rowCost columnCost r → ((p : Pairs) → replyOf (r .outcome) p ≡ refused k) → AssignmentCall costs n m rowCost columnCost k before before
+    call-refused k r h w o = declined k (enough h ∙ sym (w .is) ∙ o (pairsIn (r .assignment)))
+
+    pub call-given : (r : Assigned) (after : List ℕ) → n ≤ length before → Paired r → MatesWritten n (r .assignment .«pair_rows») (r .assignment .«pair_columns») (r .assignment .«pair_count») before after → AssignmentCall costs n m rowCost columnCost 0 before after
     unfolding pairsOf
     call-given r after h p w =
         let e : matesReply costs n m rowCost columnCost (length before) ≡ given (pairsOf n (p .takers)) = enough h ∙ p .is in
-        rw e (record { code = refl; mates = w .is (p .takers) (p .held) })
+        record { code = rw e; mates = rw e (w .is (p .takers) (p .held)); least = least-call }

@@ -3,13 +3,14 @@ use mathlib.Core.Path.{_≡_}
 use mathlib.Core.Bool.{Bool, true, false, cond, _&&_}
 use mathlib.Core.List.{List, [], _∷_, _++_, map}
 use mathlib.Core.Option.{Option}
-use Prim.Native.Nat.{ℕ, zero, suc}
+use Prim.Native.Nat.{ℕ, zero, suc, _≤_}
 use lib.ListN.{length, getD}
 use lib.Dec.{eqb, ltb}
 use lib.Ieee.{Float}
 use Rattle.number.specs.Reply.{Reply, refused, given}
 use Rattle.lists.specs.Lay.{lay}
 use Rattle.kuhn_munkres.specs.Assignment.{Pair, Pairs, pairsFrom, orElse, assignmentReply}
+use Rattle.least.specs.Least.{LeastOnWholes}
 use Rattle.assignment.specs.Listing.{padded, rowOf, columnIn}
 use Rattle.pikowhanu.specs.Boundary.{codeOf}
 
@@ -37,9 +38,11 @@ abbrev pub matesAfter : ℕ → Reply Pairs → List ℕ → List ℕ
 matesAfter n (refused k) before = before
 matesAfter n (given a) before = lay (matesOf (a .pairs) n) before
 
-pub record AssignmentCall (reply : Reply Pairs) (n r : ℕ) (before after : List ℕ) : Type 0 where
-  pub code : r ≡ codeOf reply
-  pub mates : after ≡ matesAfter n reply before
+-- the whole call: its code, what stands in mates afterwards, and, where there is room, the least total on whole costs
+pub record AssignmentCall (costs : List Float) (n m : ℕ) (rowCost columnCost : Float) (r : ℕ) (before after : List ℕ) : Type 0 where
+  pub code : r ≡ codeOf (matesReply costs n m rowCost columnCost (length before))
+  pub mates : after ≡ matesAfter n (matesReply costs n m rowCost columnCost (length before)) before
+  pub least : n ≤ length before → LeastOnWholes costs n m rowCost columnCost (matesReply costs n m rowCost columnCost (length before))
 
 -- ---- the walk over the rows, beside the pairs by ascending row
 -- the k-th of count pairs is row i's

@@ -2,7 +2,7 @@
 ghost use mathlib.Core.Path.{_≡_};
 ghost use Prim.Native.Nat.{_≤_};
 ghost use lib.ListN.{length};
-ghost use Rattle.pikowhanu.specs.Mates.{hits, MatesWritten, matesReply, AssignmentCall};
+ghost use Rattle.pikowhanu.specs.Mates.{hits, MatesWritten, AssignmentCall};
 
 // What stands for the column of a row that is left alone.
 const ALONE: u64 = 0xffff_ffff_ffff_ffff;
@@ -47,7 +47,7 @@ pub extern "C" fn pk_linear_assignment(
     column_cost: f64,
     mates: &mut [u64],
 ) -> u32
-    ensures { λ r. ⌜ AssignmentCall (matesReply (now (costs .entry)) rows columns «row_cost» «column_cost» (length (now (mates .entry)))) rows r (now (mates .entry)) (now (mates .exit)) ⌝ }
+    ensures { λ r. ⌜ AssignmentCall (now (costs .entry)) rows columns «row_cost» «column_cost» r (now (mates .entry)) (now (mates .exit)) ⌝ }
 {
     if mates.len() < rows {
         return 11;

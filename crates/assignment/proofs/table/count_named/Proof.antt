@@ -3,8 +3,9 @@ use native.Mathlib.Omega.{arith}
 use mathlib.Core.Path.{_≡_, refl, sym, ap, _∙_, subst}
 use Prim.Native.Nat.{ℕ, _+_, _-_, _*_, _≤_, _<_}
 use borrow.Author.Tests.{eq-eqb, ne-eqb}
-use Rattle.assignment.specs.Picks.{ticks, bears}
-use Rattle.assignment.proofs.Picking.{ticks-on, ticks-off, ticks-le}
+use Rattle.groups.specs.Picks.{ticks}
+use Rattle.groups.proofs.Picking.{ticks-on, ticks-off, ticks-le}
+use Rattle.assignment.specs.Picks.{bears}
 use Rattle.assignment.proofs.table.count_named.Statement.{statement}
 use Rattle.assignment.proofs.table.count_named.Tie as tie
 

@@ -5,8 +5,10 @@ use Prim.Native.Nat.{ℕ, _+_, _-_, _*_, _≤_, _<_}
 use borrow.Author.Tests.{eq-eqb, ne-eqb}
 use lib.ListN.{getD, length}
 use lib.Ieee.{Float, nan}
-use Rattle.assignment.specs.Picks.{picked, ticks, bears, Laid}
-use Rattle.assignment.proofs.Picking.{picked-on, picked-off, picked-long, ticks-le, laid-none, laid-more}
+use Rattle.groups.specs.Picks.{picked, ticks}
+use Rattle.groups.proofs.Picking.{picked-on, picked-off, picked-long, ticks-le}
+use Rattle.assignment.specs.Picks.{bears, Laid}
+use Rattle.assignment.proofs.Picking.{laid-none, laid-more}
 use Rattle.assignment.proofs.table.gather_row.Statement.{statement}
 use Rattle.assignment.proofs.table.gather_row.Tie as tie
 

@@ -7,7 +7,7 @@ use Rattle.assignment.specs.Replies.{replyOf}
 use Rattle.assignment.specs.declared.Outcome.{Outcome}
 use Rattle.assignment.specs.declared.Outcome.the-variants.{Given}
 use lib.ListN.{length}
-use Rattle.pikowhanu.specs.Mates.{matesReply, AssignmentCall}
+use Rattle.pikowhanu.specs.Mates.{AssignmentCall}
 use Rattle.pikowhanu.proofs.Mated.{Paired, paired, call-short, call-refused, call-given}
 use Rattle.pikowhanu.proofs.mates.pk_linear_assignment.Statement.{statement}
 use Rattle.pikowhanu.proofs.mates.pk_linear_assignment.Tie as tie
@@ -28,7 +28,7 @@ returns-2 c =
     call-given (s .args .costs .now) (s .args .rows) (s .args .columns) (s .args .row-cost) (s .args .column-cost) (s .args .mates .now) (at .linear-assignment .result) _ (at .before .if1 .left) (pairs-held at (told .enum-told .given .1)) (w .write-mates .ensures)
 
 -- a refusal of the assignment, by its number
-declined : (c : tie.After-linear-assignment) (o : Outcome) (k : ℕ) → c .linear-assignment .result .outcome ≡ o → ((p : Pairs) → replyOf o p ≡ refused k) → (let s = c .before .before .before .before in AssignmentCall (matesReply (s .args .costs .now) (s .args .rows) (s .args .columns) (s .args .row-cost) (s .args .column-cost) (length (s .args .mates .now))) (s .args .rows) k (s .args .mates .now) (s .args .mates .now))
+declined : (c : tie.After-linear-assignment) (o : Outcome) (k : ℕ) → c .linear-assignment .result .outcome ≡ o → ((p : Pairs) → replyOf o p ≡ refused k) → (let s = c .before .before .before .before in AssignmentCall (s .args .costs .now) (s .args .rows) (s .args .columns) (s .args .row-cost) (s .args .column-cost) k (s .args .mates .now) (s .args .mates .now))
 declined c o k e q =
     let s = c .before .before .before .before in
     call-refused (s .args .costs .now) (s .args .rows) (s .args .columns) (s .args .row-cost) (s .args .column-cost) (s .args .mates .now) k (c .linear-assignment .result) (c .before .if1 .left) (c .linear-assignment .ensures) (λ p. ap (λ (x : Outcome). replyOf x p) e ∙ q p)

@@ -1,0 +1,122 @@
+-- What a mask strikes, as what a pass picks; what is put back by a mask; rows of a table.
+use mathlib.Core.Path.{_≡_, refl, sym, ap, ap₂, _∙_}
+use mathlib.Core.Bool.{Bool, true, false, cond, _||_, true≢false}
+use mathlib.Core.List.{List, [], _∷_}
+use Prim.Native.Nat.{ℕ, zero, suc, _+_, _*_, _≤_, _<_}
+use native.Mathlib.Decide.{ℕ-discrete}
+use native.Mathlib.Nat.{suc-mul, zero-mul}
+use native.Mathlib.Omega.{arith}
+use borrow.Author.Tests.{eq-eqb, ne-eqb}
+use lib.Dec.{eqb}
+use lib.ListN.{getD, length, take, drop}
+use lib.Seq.{take-all, drop-drop}
+use Rattle.kuhn_munkres.specs.Strike.{strike, spread, anyOf, upFrom}
+use Rattle.kuhn_munkres.specs.Assignment.{rowsOf, same}
+use Rattle.groups.specs.Picks.{addIf, picked, ticks}
+use Rattle.groups.proofs.Picking.{ticks-some, some-tick, ticks-shift}
+
+-- ---- a mask's pick
+strike-take : {A : Type 0} (d : A) (k : List Bool) (l : List A) (n : ℕ) → n < length k → n < length l → strike (take (suc n) k) (take (suc n) l) ≡ addIf (getD k n false) (getD l n d) (strike (take n k) (take n l))
+unfolding strike
+strike-take d [] l n h g = absurd (omega arith)
+strike-take d (b ∷ k) [] n h g = absurd (omega arith)
+strike-take d (true ∷ k) (x ∷ l) zero h g = refl
+strike-take d (false ∷ k) (x ∷ l) zero h g = refl
+strike-take d (true ∷ k) (x ∷ l) (suc n) h g = ap (λ (t : List _). x ∷ t) (strike-take d k l n (omega arith) (omega arith)) ∙ out (getD k n false)
+  where
+    out : (c : Bool) → x ∷ addIf c (getD l n d) (strike (take n k) (take n l)) ≡ addIf c (getD l n d) (x ∷ strike (take n k) (take n l))
+    out true = refl
+    out false = refl
+strike-take d (false ∷ k) (x ∷ l) (suc n) h g = strike-take d k l n (omega arith) (omega arith)
+
+strike-upto : {A : Type 0} (d : A) (k : List Bool) (l : List A) (n : ℕ) → n ≤ length k → n ≤ length l → strike (take n k) (take n l) ≡ picked (λ i. getD k i false) (λ i. getD l i d) n
+unfolding picked strike
+strike-upto d k l zero h g = refl
+strike-upto d k l (suc n) h g = strike-take d k l n h g ∙ ap (addIf (getD k n false) (getD l n d)) (strike-upto d k l n (omega arith) (omega arith))
+
+pub strike-picked : {A : Type 0} (d : A) (k : List Bool) (l : List A) (n : ℕ) → length k ≡ n → length l ≡ n → strike k l ≡ picked (λ i. getD k i false) (λ i. getD l i d) n
+strike-picked d k l n h g = ap₂ (λ (a : List Bool) (b : List _). strike a b) (sym (take-all n k (rw h (omega arith)))) (sym (take-all n l (rw g (omega arith)))) ∙ strike-upto d k l n (rw h (omega arith)) (rw g (omega arith))
+
+-- ---- a mask with something on it
+any-in : (k : List Bool) (i : ℕ) → getD k i false ≡ true → anyOf same k ≡ true
+unfolding anyOf
+any-in [] i e = e
+any-in (true ∷ k) i e = refl
+any-in (false ∷ k) zero e = absurd (true≢false (sym e))
+any-in (false ∷ k) (suc i) e = any-in k i e
+
+pub any-out : (k : List Bool) → anyOf same k ≡ true → (i : ℕ) × (i < length k) × (getD k i false ≡ true)
+unfolding anyOf
+any-out [] e = absurd (true≢false (sym e))
+any-out (true ∷ k) e = (0, omega arith, refl)
+any-out (false ∷ k) e = let r = any-out k e in let l = r .1 in (suc (r .0), omega arith, r .2)
+
+pub not-true : (b : Bool) → (b ≡ true → ⊥) → b ≡ false
+not-true true f = absurd (f refl)
+not-true false f = refl
+
+pub any-off : (k : List Bool) → anyOf same k ≡ false → (i : ℕ) → getD k i false ≡ false
+any-off k e i = not-true (getD k i false) (λ q. true≢false (sym (any-in k i q) ∙ e))
+
+module _ (k : List Bool) (m : ℕ → Bool) (n : ℕ) (long : length k ≡ n) (like : (i : ℕ) → i < n → getD k i false ≡ m i) where
+  pub any-none : ticks m n ≡ 0 → anyOf same k ≡ false
+  any-none e = not-true (anyOf same k) (λ q. let r = any-out k q in let l : r .0 < n = rw long at (r .1) in omega (arith, ticks-some m n (r .0) l (sym (like (r .0) l) ∙ r .2)))
+
+  pub any-some : (ticks m n ≡ 0 → ⊥) → anyOf same k ≡ true
+  any-some g = let r = some-tick m n (let h : 0 < ticks m n = omega (arith, g) in h) in any-in k (r .0) (like (r .0) (r .1) ∙ r .2)
+
+-- ---- putting back by a mask
+pub spread-long : {A : Type 0} (k : List Bool) (l t : List A) → length k ≡ length t → length (spread k l t) ≡ length t
+unfolding spread
+spread-long [] l t e = refl
+spread-long (b ∷ k) l [] e = refl
+spread-long (true ∷ k) [] (o ∷ t) e = ap suc (spread-long k [] t (omega arith))
+spread-long (true ∷ k) (x ∷ l) (o ∷ t) e = ap suc (spread-long k l t (omega arith))
+spread-long (false ∷ k) l (o ∷ t) e = ap suc (spread-long k l t (omega arith))
+
+pub spread-at : {A : Type 0} (d : A) (k : List Bool) (l t : List A) (j : ℕ) → length k ≡ length t → j < length t → ticks (λ i. getD k i false) (length k) ≤ length l
+    → getD (spread k l t) j d ≡ cond (getD k j false) (getD l (ticks (λ i. getD k i false) j) d) (getD t j d)
+unfolding spread
+spread-at d [] l [] j e h q = absurd (omega arith)
+spread-at d [] l (o ∷ t) j e h q = absurd (omega arith)
+spread-at d (b ∷ k) l [] j e h q = absurd (omega arith)
+spread-at d (true ∷ k) [] (o ∷ t) j e h q = absurd (omega (arith, q, ticks-shift (λ i. getD (true ∷ k) i false) (length k)))
+spread-at d (true ∷ k) (x ∷ l) (o ∷ t) zero e h q = unfold ticks in refl
+spread-at d (true ∷ k) (x ∷ l) (o ∷ t) (suc j) e h q =
+    let s = ticks-shift (λ i. getD (true ∷ k) i false) j in
+    let w : ticks (λ i. getD (true ∷ k) i false) (suc j) ≡ suc (ticks (λ i. getD k i false) j) = omega (arith, s) in
+    spread-at d k l t j (omega arith) (omega arith) (omega (arith, q, ticks-shift (λ i. getD (true ∷ k) i false) (length k))) ∙ rw w
+spread-at d (false ∷ k) l (o ∷ t) zero e h q = refl
+spread-at d (false ∷ k) l (o ∷ t) (suc j) e h q =
+    let s = ticks-shift (λ i. getD (false ∷ k) i false) j in
+    let w : ticks (λ i. getD (false ∷ k) i false) (suc j) ≡ ticks (λ i. getD k i false) j = omega (arith, s) in
+    spread-at d k l t j (omega arith) (omega arith) (omega (arith, q, ticks-shift (λ i. getD (false ∷ k) i false) (length k))) ∙ rw w
+
+-- ---- rows of a table
+pub rows-at : {F : Type 0} (n w : ℕ) (l : List F) (i : ℕ) → i < n → getD (rowsOf n w l) i [] ≡ take w (drop (i * w) l)
+unfolding rowsOf
+rows-at zero w l i h = absurd (omega arith)
+rows-at (suc n) w l zero h = rw (zero-mul w)
+rows-at (suc n) w l (suc i) h =
+    let m : w + i * w ≡ suc i * w = omega (arith, suc-mul i w) in
+    rows-at n w (drop w l) i (omega arith) ∙ ap (take w) (drop-drop (i * w) w l ∙ ap (λ (k : ℕ). drop k l) m)
+
+pub up-at : {A : Type 0} (k : ℕ) (l : List A) (i : ℕ) → i < length l → getD (upFrom k l) i 0 ≡ k + i
+unfolding upFrom
+up-at k [] i h = absurd (omega arith)
+up-at k (x ∷ l) zero h = omega arith
+up-at k (x ∷ l) (suc i) h = let r = up-at (suc k) l i (omega arith) in omega arith
+
+pub up-long : {A : Type 0} (k : ℕ) (l : List A) → length (upFrom k l) ≡ length l
+unfolding upFrom
+up-long k [] = refl
+up-long k (x ∷ l) = ap suc (up-long (suc k) l)
+
+pub any-up : {A : Type 0} (k : ℕ) (l : List A) (g : ℕ) → k ≤ g → g < k + length l → anyOf (eqb g) (upFrom k l) ≡ true
+unfolding anyOf upFrom
+any-up k [] g h q = absurd (omega arith)
+any-up k (x ∷ l) g h q = go (ℕ-discrete g k) (λ f. any-up (suc k) l g f (omega arith))
+  where
+    go : Dec (g ≡ k) → (suc k ≤ g → anyOf (eqb g) (upFrom (suc k) l) ≡ true) → (eqb g k || anyOf (eqb g) (upFrom (suc k) l)) ≡ true
+    go (yes e) ih = rw (eq-eqb g k e)
+    go (no f) ih = rw (ne-eqb g k f) (ih (omega arith))

@@ -1,0 +1,123 @@
+-- The answer to a line is, of all pairings of the line's table, one of least total.
+use mathlib.Core.Path.{_≡_, refl, sym, ap, _∙_, subst}
+use mathlib.Core.Bool.{Bool, true, false, cond, not, _&&_, _||_, true≢false}
+use mathlib.Core.List.{List, [], _∷_, _++_}
+use mathlib.Core.Option.{Option, none, some}
+use Prim.Native.Nat.{ℕ, zero, suc, _+_, _*_, _≤_, _<_}
+use native.Mathlib.Omega.{arith}
+use borrow.Author.Tests.{ltb-false, eqb-true}
+use lib.Dec.{eqb, ltb}
+use lib.ListN.{getD, length, length-append}
+use lib.Ieee.{Float, nan, binary64, ofBits}
+use lib.Ieee.Scale.{finite}
+use Rattle.number.specs.Reply.{Reply, refused, given}
+use Rattle.whole.specs.Integer.{Integer, 0Z, Within, _≈_, _≤Z_}
+use Rattle.whole.specs.Whole.{WholeValue, wholeOf}
+use Rattle.whole.proofs.Values.{is-whole, whole-same}
+use Rattle.kuhn_munkres.specs.Strike.{Every}
+use Rattle.kuhn_munkres.specs.Assignment.{Pair, Pairs, inOne, orElse, assignmentReply}
+use Rattle.least.specs.Least.{Pairing, total, costAt, allowedIn, WholeCosts, LeastTotal, LeastOnWholes}
+use Rattle.least.proofs.Sentinel.{Ranged}
+use Rattle.least.proofs.Dense.{one-at}
+use Rattle.least.proofs.Answer.{assignment-least}
+use Rattle.request.specs.Request.{Request, requestOf, even, shaped}
+use Rattle.line.specs.Line.{formed, decided, replyTo}
+use Rattle.line_least.specs.LeastLine.{costsIn, numberAt, PairingOf, totalIn, LeastLine}
+use Rattle.line_least.proofs.Ranges.{Fit, Numbers, request-numbers}
+
+-- ---- a reply that is given passed its test
+passed : {A : Type 0} (b : Bool) (n : ℕ) (r : Reply A) (a : A) → orElse b n r ≡ given a → (b ≡ false) × (r ≡ given a)
+passed true n r a e = absurd (let z : _≡_ {A = ℕ} 0 1 = cc in omega arith)
+passed false n r a e = (refl, e)
+
+neither : (a b : Bool) → (a || b) ≡ false → (a ≡ false) × (b ≡ false)
+neither true b e = absurd (true≢false e)
+neither false b e = (refl, e)
+
+both : (a b : Bool) → (a && b) ≡ true → (a ≡ true) × (b ≡ true)
+both true b e = (refl, e)
+both false b e = absurd (true≢false (sym e))
+
+not-false : (b : Bool) → not b ≡ false → b ≡ true
+not-false true e = refl
+not-false false e = absurd (true≢false e)
+
+-- ---- the table's shape
+even-wide : (w : ℕ) (t : List (List Float)) → even w t ≡ true → (i : ℕ) → i < length t → length (getD t i []) ≡ w
+unfolding even
+even-wide w [] e i h = absurd (no i h)
+  where
+    no : (i : ℕ) → i < 0 → ⊥
+    no i h = omega arith
+even-wide w (r ∷ t) e zero h = eqb-true (length r) w (both (eqb (length r) w) (even w t) e .0)
+even-wide w (r ∷ t) e (suc i) h = even-wide w t (both (eqb (length r) w) (even w t) e .1) i (omega arith)
+
+even-size : (w : ℕ) (t : List (List Float)) → even w t ≡ true → length (inOne t) ≡ length t * w
+unfolding even inOne
+even-size w [] e = omega arith
+even-size w (r ∷ t) e =
+    let p = both (eqb (length r) w) (even w t) e in
+    let a : length r ≡ w = eqb-true (length r) w (p .0) in
+    let b = even-size w t (p .1) in
+    length-append r (inOne t) ∙ omega arith
+
+every-at : {A : Type 0} (P : A → Type 0) (l : List A) (d : A) (i : ℕ) → Every P l → i < length l → P (getD l i d)
+unfolding Every
+every-at P [] d i h l = absurd (no i l)
+  where
+    no : (i : ℕ) → i < 0 → ⊥
+    no i h = omega arith
+every-at P (x ∷ k) d zero h l = h .0
+every-at P (x ∷ k) d (suc i) h l = every-at P k d i (h .1) (omega arith)
+
+-- a number in range is the one that `wholeOf` gives
+settled : (x : Float) → Ranged x → WholeValue x (wholeOf x) × Within 1_000_000 (wholeOf x)
+settled x (d, v, w) = let e = whole-same x d v in (is-whole x d v, (omega arith, omega arith))
+
+zero-whole : WholeValue (ofBits binary64 0) 0Z
+unfolding ofBits
+zero-whole = record { minus = false; mag = 0; val = (refl, refl); is = omega arith }
+
+module _ (q : Request) (N : Numbers q) (few-rows : q .sizes .rows ≤ 64) (few-columns : q .sizes .columns ≤ 64) (has : shaped q ≡ true) where
+  abbrev n : ℕ
+  n = q .sizes .rows
+
+  abbrev m : ℕ
+  m = q .sizes .columns
+
+  shape : (length (q .table) ≡ n) × (even m (q .table) ≡ true)
+  shape = let p = both (eqb (length (q .table)) n) (even m (q .table)) has in (eqb-true (length (q .table)) n (p .0), p .1)
+
+  place : (i j : ℕ) → i < n → j < m → costAt (costsIn q) m i j ≡ getD (getD (q .table) i []) j nan
+  place i j h l = one-at (q .table) m i j (even-wide m (q .table) (shape .1)) (rw (shape .0) h) l
+
+  entry-fit : (i j : ℕ) → i < n → j < m → Fit (costAt (costsIn q) m i j)
+  entry-fit i j h l =
+      let r = every-at (Every Fit) (q .table) [] i (N .table) (rw (shape .0) h) in
+      subst Fit (sym (place i j h l)) (every-at Fit (getD (q .table) i []) nan j r (rw (even-wide m (q .table) (shape .1) i (rw (shape .0) h)) l))
+
+  wholes : WholeCosts (costsIn q) n m (q .sizes .cost) (ofBits binary64 0) (numberAt q) (wholeOf (q .sizes .cost)) 0Z
+  wholes = record {
+    rows-few = few-rows;
+    columns-few = few-columns;
+    size = even-size m (q .table) (shape .1) ∙ ap (λ (k : ℕ). k * m) (shape .0);
+    costs-are = λ i j h l e. settled (costAt (costsIn q) m i j) (entry-fit i j h l e);
+    row-is = settled (q .sizes .cost) (N .cost);
+    column-is = (zero-whole, (omega arith, omega arith));
+  }
+
+  least-of : (a : Pairs) → assignmentReply (costsIn q) n m (q .sizes .cost) (ofBits binary64 0) ≡ given a → LeastLine q a
+  least-of a e =
+      let T = assignment-least (costsIn q) n m (q .sizes .cost) (ofBits binary64 0) (numberAt q) (wholeOf (q .sizes .cost)) 0Z wholes in
+      let w : given (T .answer) ≡ given a = sym (T .given-it) ∙ e in
+      let z : T .answer ≡ a = cc in
+      subst (LeastLine q) z (record { pairing = T .pairing; least = T .least })
+
+pub line-least : (l : List ℕ) (q : Request) (a : Pairs) → requestOf l ≡ some q → replyTo l ≡ given a → LeastLine q a
+unfolding replyTo decided
+line-least l q a r e =
+    let x = passed (not (formed l)) 13 (decided (requestOf l)) a e in
+    let y = passed (ltb 64 (q .sizes .rows) || ltb 64 (q .sizes .columns)) 11 _ a (rw r at (x .1)) in
+    let z = passed (not (shaped q)) 10 _ a (y .1) in
+    let f = neither (ltb 64 (q .sizes .rows)) (ltb 64 (q .sizes .columns)) (y .0) in
+    least-of q (request-numbers l q r) (ltb-false 64 (q .sizes .rows) (f .0)) (ltb-false 64 (q .sizes .columns) (f .1)) (not-false (shaped q) (z .0)) a (z .1)

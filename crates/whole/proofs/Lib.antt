@@ -1,0 +1,3 @@
+pub mod OneOne
+pub mod Exact
+pub mod Values

@@ -1,0 +1,3 @@
+pub mod Integer
+pub mod Whole
+pub mod Takers
