@@ -2,3 +2,4 @@ pub mod Laying
 pub mod Firsts
 pub mod Sifting
 pub mod Loops
+pub mod Sames

@@ -1,3 +1,4 @@
 pub mod Lay
 pub mod First
 pub mod Sift
+pub mod Same

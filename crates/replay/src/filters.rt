@@ -1,14 +1,15 @@
 // Kalman filters, by calls.
+use detections::Velocity;
 use filter::KalmanFilter;
 use filter::Outcome;
 use filter::Step;
 use math::linalg::Distance;
 use math::linalg::Refusal;
 
-// A filter, and numbers that calls take: 6 of a state, 36 of its covariance, 3 of a position, 9 of its covariance.
+// A filter, and numbers that calls take: 6 of a state, 36 of its covariance, 3 of a position, 9 of its covariance, 2 of a velocity and 1 where there is one.
 pub struct Filters {
     filter: KalmanFilter,
-    numbers: [f64; 54],
+    numbers: [f64; 57],
 }
 
 pub fn new() -> Filters {
@@ -18,11 +19,11 @@ pub fn new() -> Filters {
     };
     Filters {
         filter,
-        numbers: [0.0; 54],
+        numbers: [0.0; 57],
     }
 }
 
-fn code_of(why: Refusal) -> u64 {
+pub fn code_of(why: Refusal) -> u64 {
     match why {
         Refusal::NonFiniteValue => 5,
         Refusal::NotSymmetric => 6,
@@ -32,7 +33,7 @@ fn code_of(why: Refusal) -> u64 {
 }
 
 // Six numbers, from the first.
-fn state_of(numbers: [f64; 54]) -> [f64; 6] {
+fn state_of(numbers: [f64; 57]) -> [f64; 6] {
     let mut state = [0.0; 6];
     let mut i: usize = 0;
     while i < 6 {
@@ -43,7 +44,7 @@ fn state_of(numbers: [f64; 54]) -> [f64; 6] {
 }
 
 // Thirty-six numbers, from the seventh.
-fn covariance_of(numbers: [f64; 54]) -> [f64; 36] {
+fn covariance_of(numbers: [f64; 57]) -> [f64; 36] {
     let mut covariance = [0.0; 36];
     let mut i: usize = 0;
     while i < 36 {
@@ -53,12 +54,12 @@ fn covariance_of(numbers: [f64; 54]) -> [f64; 36] {
     covariance
 }
 
-fn position_of(numbers: [f64; 54]) -> [f64; 3] {
+fn position_of(numbers: [f64; 57]) -> [f64; 3] {
     [numbers[42], numbers[43], numbers[44]]
 }
 
-// The last nine.
-fn noise_of(numbers: [f64; 54]) -> [f64; 9] {
+// Nine numbers, from the forty-sixth.
+fn noise_of(numbers: [f64; 57]) -> [f64; 9] {
     let mut noise = [0.0; 9];
     let mut i: usize = 0;
     while i < 9 {
@@ -66,6 +67,15 @@ fn noise_of(numbers: [f64; 54]) -> [f64; 9] {
         i += 1;
     }
     noise
+}
+
+// The last three.
+fn velocity_of(numbers: [f64; 57]) -> Velocity {
+    if numbers[56] > 0.0 {
+        Velocity::Measured(numbers[54], numbers[55])
+    } else {
+        Velocity::Unmeasured
+    }
 }
 
 // Number i of the filter: its state, its covariance, zeros after them.
@@ -95,7 +105,7 @@ fn write_filter(f: KalmanFilter) {
 }
 
 // Writes what a step answers and leaves.
-fn with_step(numbers: [f64; 54], s: Step) -> Filters {
+fn with_step(numbers: [f64; 57], s: Step) -> Filters {
     let outcome = s.outcome;
     let filter = s.filter;
     match outcome {
@@ -125,7 +135,7 @@ fn write_distance(d: Distance) {
 fn load(r: Filters, place: u64, a: u64, b: u64, c: u64) -> Filters {
     let filter = r.filter;
     let mut numbers = r.numbers;
-    let i = (place % 52) as usize;
+    let i = (place % 55) as usize;
     numbers[i] = super::floats::number_of(a);
     numbers[i + 1] = super::floats::number_of(b);
     numbers[i + 2] = super::floats::number_of(c);
@@ -155,6 +165,17 @@ pub fn run(r: Filters, letter: u8, first: u64, second: u64, third: u64, fourth: 
         )
     } else if letter == b'W' {
         with_step(numbers, filter::update_velocity(filter, [a, b], c))
+    } else if super::pairs::is_pairs(letter) {
+        super::pairs::run(
+            filter,
+            position_of(numbers),
+            noise_of(numbers),
+            velocity_of(numbers),
+            letter,
+            [a, b, c],
+            fourth,
+        );
+        r
     } else {
         write_distance(filter::squared_mahalanobis(
             filter,

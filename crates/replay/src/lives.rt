@@ -31,7 +31,7 @@ pub fn new() -> Lives {
 }
 
 // The signed number with these bits.
-fn signed(b: u64) -> i64 {
+pub fn signed(b: u64) -> i64 {
     if b < 9223372036854775808 {
         b as i64
     } else {
@@ -40,7 +40,7 @@ fn signed(b: u64) -> i64 {
 }
 
 // The bits of a signed number.
-fn bits(n: i64) -> u64 {
+pub fn bits(n: i64) -> u64 {
     if n < 0 {
         18446744073709551615 - ((-1 - n) as u64)
     } else {

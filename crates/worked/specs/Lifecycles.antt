@@ -5,16 +5,11 @@ use lib.IntN.{pos}
 use Rattle.lifecycle.specs.declared.TrackLifecycleState.the-variants.{Confirmed, Lost}
 use Rattle.lifecycle.specs.declared.Observation.the-variants.{At}
 use Rattle.lifecycle.specs.declared.TrackLifecycle.{TrackLifecycle}
-use Rattle.lifecycle.specs.declared.LifecycleConfig.{LifecycleConfig}
 use Rattle.lifecycle.specs.declared.Continued.the-variants.{Kept, Dropped}
 use Rattle.lifecycle.specs.Lifecycle.{withState, advancedOf}
 use Rattle.lifecycle.specs.Sensors.{recordedOf}
+use Rattle.settings.specs.Settings.{defaultLifecycle}
 use Rattle.worked.specs.Case.{Case, case}
-
--- the Rust's defaults
-abbrev defaults : LifecycleConfig
-defaults =
-    record { «confirm_min_observation_times» = 2; «tentative_timeout_ns» = pos 1000000000; «confirmed_to_lost_ns» = pos 500000000; «lost_to_delete_ns» = pos 2000000000 }
 
 -- made and last observed at time 0
 abbrev confirmed : TrackLifecycle
@@ -22,9 +17,9 @@ confirmed = record { state = Confirmed; «created_at» = pos 0; «last_observati
 
 abbrev pub lifecycleCases : List Case
 lifecycleCases =
-    case (advancedOf confirmed (pos 500000000) defaults) (Kept confirmed)
-    ∷ case (advancedOf confirmed (pos 500000001) defaults) (Kept (withState Lost confirmed))
-    ∷ case (advancedOf confirmed (pos 2000000001) defaults) Dropped
+    case (advancedOf confirmed (pos 500000000) defaultLifecycle) (Kept confirmed)
+    ∷ case (advancedOf confirmed (pos 500000001) defaultLifecycle) (Kept (withState Lost confirmed))
+    ∷ case (advancedOf confirmed (pos 2000000001) defaultLifecycle) Dropped
     ∷ case (recordedOf (1 ∷ 2 ∷ []) 3 2) (2 ∷ 3 ∷ [])
     ∷ case (recordedOf (1 ∷ 2 ∷ []) 1 2) (1 ∷ 2 ∷ [])
     ∷ []

@@ -94,11 +94,11 @@ impl Step {
             }
             "position" => Step::Position {
                 z: words.floats()?,
-                r: rows(words)?,
+                r: words.rows()?,
             },
             "distance" => Step::Distance {
                 z: words.floats()?,
-                r: rows(words)?,
+                r: words.rows()?,
             },
             _ => return None,
         })
@@ -151,14 +151,6 @@ fn place(random: &mut Random) -> f64 {
 
 fn places<const N: usize>(random: &mut Random) -> [f64; N] {
     std::array::from_fn(|_| place(random))
-}
-
-fn rows<const N: usize>(words: &mut Words) -> Option<Rows<N>> {
-    let mut rows = [[0.0; N]; N];
-    for row in &mut rows {
-        *row = words.floats()?;
-    }
-    Some(rows)
 }
 
 fn bits(items: &[f64]) -> Vec<u64> {
@@ -229,7 +221,7 @@ impl Case for FilterCase {
         let mut words = Words::new(words);
         Some(FilterCase {
             state: words.floats()?,
-            covariance: rows(&mut words)?,
+            covariance: words.rows()?,
             steps: words.all(Step::parse)?,
         })
     }

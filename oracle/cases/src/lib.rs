@@ -2,6 +2,7 @@
 
 pub mod assignment;
 pub mod calls;
+pub mod detections;
 pub mod filter;
 pub mod least;
 pub mod lifecycle;

@@ -1,5 +1,7 @@
 //! Settings: every field good, at an edge or bad; the reply is the first bad field.
 
+mod edges;
+
 use factor_tracker_core::judge::settings::first_bad_field;
 use factor_tracker_core::tracker::Cartesian3DTrackerConfig;
 use factor_tracker_core::types::{FrameId, TrackerConfig};
@@ -52,6 +54,7 @@ fn common(random: &mut Random) -> TrackerConfig {
         lost_to_delete_ns: later,
         new_track_score_threshold: sometimes(random, |random| match random.below(8) {
             0 => floats::edge(random),
+            1 => [1.0 - f64::EPSILON / 2.0, 1.0 + f64::EPSILON][random.below(2) as usize],
             _ => floats::unit(random),
         }),
         max_contributing_sensors: [0, 1, 2, 15, 16, 16, 16, 17, usize::MAX]
@@ -63,7 +66,7 @@ impl Case for SettingsCase {
     type Reply = Option<u32>;
 
     fn fixed() -> Vec<Self> {
-        vec![SettingsCase(Cartesian3DTrackerConfig::default())]
+        edges::all().into_iter().map(SettingsCase).collect()
     }
 
     fn random(random: &mut Random) -> Self {

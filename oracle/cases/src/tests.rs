@@ -2,11 +2,13 @@
 
 use std::collections::BTreeSet;
 
+use factor_tracker_core::judge::detections::{self, Verdict};
 use inputs::Random;
 use trials::Case;
 
 use crate::assignment::AssignmentCase;
 use crate::calls::{Answer, CallsCase};
+use crate::detections::DetectionsCase;
 use crate::filter::FilterCase;
 use crate::least::LeastCase;
 use crate::lifecycle::LifecycleCase;
@@ -56,6 +58,7 @@ fn cases_are_read_back_and_shrink() {
     sound::<AssignmentCase>();
     sound::<LeastCase>();
     sound::<FilterCase>();
+    sound::<DetectionsCase>();
     sound::<LineCase>();
 }
 
@@ -112,6 +115,72 @@ fn filters_meet_every_refusal() {
         .into_iter()
         .flat_map(|case| case.judged());
     met(replies.map(|reply| reply.number).collect(), [0, 5, 6, 7, 9]);
+}
+
+#[test]
+fn detections_meet_every_check_and_rule() {
+    let replies: Vec<_> = some::<DetectionsCase>(20_000)
+        .into_iter()
+        .filter_map(|case| case.judged().ok())
+        .flatten()
+        .collect();
+    met(
+        replies.iter().map(|reply| reply.check).collect(),
+        [0, 5, 6, 7],
+    );
+    let number = |verdict: Verdict| match verdict {
+        Verdict::Allowed(_) => 0,
+        Verdict::ClassesForbid => 1,
+        Verdict::GateForbids => 2,
+        Verdict::CostForbids => 3,
+        Verdict::Refused(number) => number,
+    };
+    let verdicts = replies.iter().filter_map(|reply| reply.verdict);
+    met(verdicts.map(number).collect(), [0, 1, 2, 3, 7, 9]);
+}
+
+/// The rule that the judge writes out is the one inside the Rust's batch call: a pair is made at its cost where that is at most the gate, which is what a row
+/// alone costs, and else no track is updated.
+#[test]
+fn a_batch_keeps_the_rule_for_a_pair() {
+    let mut made = 0;
+    for case in some::<DetectionsCase>(20_000) {
+        let [first, second, ..] = case.detections[..] else {
+            continue;
+        };
+        let Ok(mut filter) = detections::begun(&first) else {
+            continue;
+        };
+        if detections::check(&first) != 0 || detections::check(&second) != 0 {
+            continue;
+        }
+        let verdict = detections::verdict(&filter, first.class, case.prior, &second, case.rule);
+        let expected = match verdict {
+            Verdict::Refused(number) => Err(number),
+            Verdict::Allowed(cost) if cost <= case.rule.gate => filter
+                .update_position(second.position, second.covariance)
+                .map(|()| Some(cost)),
+            _ => Ok(None),
+        };
+        let by_batch = detections::by_batch(&first, case.prior, &second, case.rule);
+        assert_eq!(by_batch, expected, "{}", case.print());
+        made += usize::from(matches!(expected, Ok(Some(_))));
+    }
+    assert!(made > 1_000, "only {made} pairs were made");
+}
+
+#[test]
+fn the_gate_is_met_at_its_edge() {
+    let verdicts = |gate: f64| {
+        let at_gate = |case: &DetectionsCase| case.rule.gate == gate;
+        let case = DetectionsCase::fixed().into_iter().find(at_gate);
+        let replies = case.expect("a worked case").judged().expect("a track");
+        let verdicts = replies.into_iter().map(|reply| reply.verdict);
+        verdicts.collect::<Vec<_>>()
+    };
+    assert_eq!(verdicts(1.0), [Some(Verdict::Allowed(1.0)); 3]);
+    let below = 1.0_f64.next_down();
+    assert_eq!(verdicts(below), [Some(Verdict::GateForbids); 3]);
 }
 
 #[test]

@@ -67,6 +67,15 @@ impl<'a> Words<'a> {
         Some(items)
     }
 
+    /// Rows of as many numbers as there are rows.
+    pub fn rows<const N: usize>(&mut self) -> Option<[[f64; N]; N]> {
+        let mut rows = [[0.0; N]; N];
+        for row in &mut rows {
+            *row = self.floats()?;
+        }
+        Some(rows)
+    }
+
     /// A dash, or what `item` reads.
     pub fn optional<T>(&mut self, item: impl Fn(&mut Self) -> Option<T>) -> Option<Option<T>> {
         if self.rest.first()? == "-" {

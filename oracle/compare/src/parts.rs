@@ -3,6 +3,8 @@
 #[cfg(feature = "pikowhanu")]
 mod assignment;
 #[cfg(feature = "replay")]
+mod detections;
+#[cfg(feature = "replay")]
 mod filter;
 #[cfg(feature = "pikowhanu")]
 mod least;
@@ -14,6 +16,8 @@ mod line;
 mod root;
 #[cfg(feature = "replay")]
 mod sensors;
+#[cfg(feature = "replay")]
+mod settings;
 
 use trials::Part;
 
@@ -38,9 +42,13 @@ pub const PARTS: &[Entry] = &[
     #[cfg(feature = "replay")]
     entry::<filter::FilterPart>(),
     #[cfg(feature = "replay")]
+    entry::<detections::DetectionsPart>(),
+    #[cfg(feature = "replay")]
     entry::<lifecycle::LifecyclePart>(),
     #[cfg(feature = "replay")]
     entry::<sensors::SensorsPart>(),
+    #[cfg(feature = "replay")]
+    entry::<settings::SettingsPart>(),
 ];
 
 const fn entry<P: Part>() -> Entry {

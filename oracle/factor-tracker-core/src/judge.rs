@@ -2,6 +2,7 @@
 //! the specification adds to the Rust.
 
 pub mod assignment;
+pub mod detections;
 pub mod filter;
 pub mod flow;
 pub mod lifecycle;

@@ -1,10 +1,12 @@
 //! Writes what the gate's program replay reads, and what it must write: recorder FOLDER, for FOLDER/stdin and FOLDER/stdout.
 
+mod detections;
 mod filters;
 mod lines;
 mod lives;
 mod root;
 mod sensors;
+mod settings;
 mod tables;
 
 use std::path::Path;
@@ -29,9 +31,11 @@ fn main() -> ExitCode {
     root::record(&mut recording);
     lives::record(&mut recording);
     sensors::record(&mut recording);
+    settings::record(&mut recording);
     filters::record(&mut recording);
     tables::record(&mut recording);
     lines::record(&mut recording);
+    detections::record(&mut recording);
     match write(&recording, Path::new(folder)) {
         Ok(()) => {
             let (calls, answers) = (recording.calls.len(), recording.answers.len());

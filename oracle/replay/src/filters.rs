@@ -11,19 +11,31 @@ const POSITION: usize = 42;
 const NUMBERS: usize = 42;
 const LINES: usize = 11;
 
-/// The state and covariance, the new filter, then the steps.
+/// How many lines answer a new filter.
+pub const CREATED: usize = 1 + LINES;
+
+/// The new filter, then the steps.
 pub fn calls(case: &FilterCase) -> Vec<Line> {
-    let start = [&case.state[..], case.covariance.as_flattened()].concat();
-    let mut calls = loads(0, &start);
-    calls.push(Line::of('K', 0));
+    let mut calls = creation(&case.state, &case.covariance);
     calls.extend(case.steps.iter().flat_map(step));
     calls
 }
 
+/// The state and covariance, and a filter of them.
+pub fn creation(state: &[f64; 6], covariance: &[[f64; 6]; 6]) -> Vec<Line> {
+    let mut calls = loads(0, &[&state[..], covariance.as_flattened()].concat());
+    calls.push(Line::of('K', 0));
+    calls
+}
+
+/// A position and its covariance, for the calls after it.
+pub fn measurement(z: &[f64; 3], r: &[[f64; 3]; 3]) -> Vec<Line> {
+    loads(POSITION, &[&z[..], r.as_flattened()].concat())
+}
+
 fn step(step: &Step) -> Vec<Line> {
     let with_position = |letter, z: &[f64; 3], r: &[[f64; 3]; 3]| {
-        let numbers = [&z[..], r.as_flattened()].concat();
-        let mut calls = loads(POSITION, &numbers);
+        let mut calls = measurement(z, r);
         calls.push(Line::of(letter, 0));
         calls
     };
@@ -39,7 +51,7 @@ fn step(step: &Step) -> Vec<Line> {
 }
 
 /// Numbers into the places from the first on, three to a line.
-fn loads(first: usize, numbers: &[f64]) -> Vec<Line> {
+pub fn loads(first: usize, numbers: &[f64]) -> Vec<Line> {
     let load = |(k, three): (usize, &[f64])| {
         let [a, b, c] = [0, 1, 2].map(|i| three[i].to_bits());
         Line::new('V', [(first + 3 * k) as u64, a, b, c])
@@ -53,12 +65,12 @@ pub fn answer_lines(case: &FilterCase) -> usize {
         Step::Distance { .. } => 1,
         _ => 1 + LINES,
     };
-    1 + LINES + case.steps.iter().map(of_step).sum::<usize>()
+    CREATED + case.steps.iter().map(of_step).sum::<usize>()
 }
 
 /// The replies, the new filter's first. A filter that is refused ends them.
 pub fn replies(case: &FilterCase, lines: &[Line]) -> Vec<StepReply> {
-    let (first, mut rest) = lines.split_at(1 + LINES);
+    let (first, mut rest) = lines.split_at(CREATED);
     let new = after(first);
     if new.number != 0 {
         return vec![StepReply::none(new.number)];
@@ -107,9 +119,7 @@ fn distance(line: &Line, last: StepReply) -> StepReply {
 /// The lines that answer the oracle's replies. A filter that is refused is given back as it came, one NaN for all.
 pub fn lines(case: &FilterCase, replies: &[StepReply]) -> Vec<Line> {
     if replies[0].number != 0 {
-        let start = [&case.state[..], case.covariance.as_flattened()].concat();
-        let bits: Vec<u64> = start.into_iter().map(bits_of).collect();
-        return shown(replies[0].number, &bits);
+        return created(replies[0].number, &case.state, &case.covariance);
     }
     let steps = case.steps.iter().zip(&replies[1..]);
     let step = |(step, reply): (&Step, &StepReply)| match step {
@@ -121,6 +131,13 @@ pub fn lines(case: &FilterCase, replies: &[StepReply]) -> Vec<Line> {
     };
     let first = shown_reply(&replies[0]);
     first.into_iter().chain(steps.flat_map(step)).collect()
+}
+
+/// The lines that answer a new filter, refused or not: it is shown as it came.
+pub fn created(number: u32, state: &[f64; 6], covariance: &[[f64; 6]; 6]) -> Vec<Line> {
+    let start = [&state[..], covariance.as_flattened()].concat();
+    let bits: Vec<u64> = start.into_iter().map(bits_of).collect();
+    shown(number, &bits)
 }
 
 fn bits_of(x: f64) -> u64 {

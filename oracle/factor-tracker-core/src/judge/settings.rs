@@ -2,6 +2,7 @@
 
 use crate::error::InputError;
 use crate::tracker::Cartesian3DTrackerConfig;
+use crate::types::FrameId;
 
 /// Longest name of a frame, in bytes.
 const FRAME_BYTES: usize = 32;
@@ -25,6 +26,27 @@ const FIELDS: [&str; 15] = [
     "birth_candidate_timeout_ns",
     "velocity_measurement_std",
     "recent_track_window_ns",
+];
+
+/// One way to spoil each field, in the specification's order, for tests and cases. The fourth and the last are one field.
+pub const SPOILERS: [fn(&mut Cartesian3DTrackerConfig); 17] = [
+    |s| s.common.tentative_timeout_ns = 0,
+    |s| s.common.confirmed_to_lost_ns = 0,
+    |s| s.common.lost_to_delete_ns = s.common.confirmed_to_lost_ns - 1,
+    |s| s.common.max_contributing_sensors = 0,
+    |s| s.common.new_track_score_threshold = Some(f64::NAN),
+    |s| s.accel_spectral_density = -f64::from_bits(1),
+    |s| s.initial_velocity_variance = 0.0,
+    |s| s.gate_squared_mahalanobis = f64::INFINITY,
+    |s| s.class_prior_penalty = f64::NAN,
+    |s| s.min_birth_distance_m = Some(-0.0),
+    |s| s.birth_persistence = Some(1),
+    |s| s.birth_candidate_radius_m = 0.0,
+    |s| s.birth_candidate_timeout_ns = 0,
+    |s| s.velocity_measurement_std = Some(f64::INFINITY),
+    |s| s.recent_track_window_ns = Some(0),
+    |s| s.frame_id = FrameId::new("f".repeat(33)),
+    |s| s.common.max_contributing_sensors = 17,
 ];
 
 /// The number of the first bad field. The last two are the specification's own.

@@ -1,29 +1,8 @@
 //! Each field of the settings, its order, and what is taken at its edge.
 
-use factor_tracker_core::judge::settings::first_bad_field;
+use factor_tracker_core::judge::settings::{first_bad_field, SPOILERS};
 use factor_tracker_core::tracker::Cartesian3DTrackerConfig as Settings;
 use factor_tracker_core::types::FrameId;
-
-/// One way to spoil each field, in the specification's order.
-const SPOILERS: [fn(&mut Settings); 17] = [
-    |s| s.common.tentative_timeout_ns = 0,
-    |s| s.common.confirmed_to_lost_ns = 0,
-    |s| s.common.lost_to_delete_ns = s.common.confirmed_to_lost_ns - 1,
-    |s| s.common.max_contributing_sensors = 0,
-    |s| s.common.new_track_score_threshold = Some(f64::NAN),
-    |s| s.accel_spectral_density = -f64::from_bits(1),
-    |s| s.initial_velocity_variance = 0.0,
-    |s| s.gate_squared_mahalanobis = f64::INFINITY,
-    |s| s.class_prior_penalty = f64::NAN,
-    |s| s.min_birth_distance_m = Some(-0.0),
-    |s| s.birth_persistence = Some(1),
-    |s| s.birth_candidate_radius_m = 0.0,
-    |s| s.birth_candidate_timeout_ns = 0,
-    |s| s.velocity_measurement_std = Some(f64::INFINITY),
-    |s| s.recent_track_window_ns = Some(0),
-    |s| s.frame_id = FrameId::new("f".repeat(33)),
-    |s| s.common.max_contributing_sensors = 17,
-];
 
 fn refused(spoil: impl Fn(&mut Settings)) -> Option<u32> {
     let mut settings = Settings::default();

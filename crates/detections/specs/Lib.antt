@@ -1,0 +1,4 @@
+pub mod Detection
+pub mod Pairs
+pub mod Far
+pub mod Births
