@@ -3,3 +3,4 @@ pub mod Firsts
 pub mod Sifting
 pub mod Loops
 pub mod Sames
+pub mod Tables

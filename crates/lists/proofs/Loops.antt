@@ -7,13 +7,15 @@ use Prim.Native.Nat.{ℕ, suc, zero, _+_, _-_, _≤_, _<_, zero-le}
 use native.Mathlib.Omega.{arith}
 use native.Mathlib.Numerals.{add-one}
 use lib.ListN.{length, take, drop, getD, set, length-append, length-map, length-drop}
-use lib.Seq.{take-suc, length-take-le, getD-take, getD-drop}
+use lib.Seq.{take-suc, length-take-le, getD-take, getD-drop, take-take, take-nil}
+use native.Mathlib.Nat.{sub-zero, suc-sub-suc}
 use Rattle.lists.specs.Lay.{lay}
-use Rattle.lists.proofs.Laying.{set-lay, getD-lay}
+use Rattle.lists.specs.Table.{inserted}
+use Rattle.lists.proofs.Laying.{lay-front, set-lay, getD-lay}
 use Rattle.lists.specs.Sift.{sift, kept}
 use Rattle.lists.proofs.Sifting.{sift-more, sift-take-length}
-use Rattle.lists.specs.First.{any, changeFirst}
-use Rattle.lists.proofs.Firsts.{any-at, any-none, change-at, change-none}
+use Rattle.lists.specs.First.{any, firstAt}
+use Rattle.lists.proofs.Firsts.{any-at, any-none, first-at, first-none}
 use borrow.Author.Count.{below-more}
 
 -- l's first i elements were sifted by f into m's first j
@@ -106,16 +108,19 @@ module _ {A : Type 0} (p : A → Bool) (d : A) where
       any-none p (take n l) d
       (λ j q. let b : j < n = omega (arith, length-take-le n l h) in rw (getD-take n l j d b) (s .misses j b))
 
-  -- what a search of l's first n elements finds: the first, at i
-  pub missed-hit : (f : A → A) (l : List A) (n i : ℕ) → Missed p d l i → n ≤ length l → i < n → p (getD l i d) ≡ true
-      → changeFirst p f (take n l) ≡ some (set (take n l) i (f (getD l i d)))
-  missed-hit f l n i s h k e =
-      rw (getD-take n l i d k) at
-      (change-at p f (take n l) i d (omega (arith, length-take-le n l h)) (λ j q. rw (getD-take n l j d (omega arith)) (s .misses j q)) (rw (getD-take n l i d k) e))
+  -- and where: the first stands at i, or nowhere
+  pub missed-first : (l : List A) (n i : ℕ) → Missed p d l i → n ≤ length l → i < n → p (getD l i d) ≡ true → firstAt p (take n l) ≡ some i
+  missed-first l n i s h k e =
+      first-at p d (take n l) i
+      (record {
+        inside = omega (arith, length-take-le n l h);
+        misses = λ j q. rw (getD-take n l j d (omega arith)) (s .misses j q);
+        hits = rw (getD-take n l i d k) e;
+      })
 
-  pub missed-all : (f : A → A) (l : List A) (n : ℕ) → Missed p d l n → n ≤ length l → changeFirst p f (take n l) ≡ none
-  missed-all f l n s h =
-      change-none p f (take n l) d
+  pub missed-nowhere : (l : List A) (n : ℕ) → Missed p d l n → n ≤ length l → firstAt p (take n l) ≡ none
+  missed-nowhere l n s h =
+      first-none p d (take n l)
       (λ j q. let b : j < n = omega (arith, length-take-le n l h) in rw (getD-take n l j d b) (s .misses j b))
 
 -- l's elements from the second on were moved one place down, i of them
@@ -161,10 +166,6 @@ module _ {A : Type 0} where
       ∙ set-lay (take (n - 1) (drop 1 l)) l x (omega arith)
       ∙ ap (λ (q : List A). lay (q ++ (x ∷ [])) l) (drop-one n l z)
     where
-      take-nil : (n : ℕ) → take {A = A} n [] ≡ []
-      take-nil zero = refl
-      take-nil (suc n) = refl
-
       drop-one : (n : ℕ) (l : List A) → 0 < n → take (n - 1) (drop 1 l) ≡ drop 1 (take n l)
       drop-one zero l z = absurd (omega arith)
       drop-one (suc n) [] z = take-nil (suc n - 1)
@@ -172,3 +173,68 @@ module _ {A : Type 0} where
         where
           one-less : suc n - 1 ≡ n
           one-less = omega arith
+
+-- x was put at i and l's elements from i on were moved one place up, until j; y is the one that has no place yet
+pub record Opened {A : Type 0} (d x : A) (i : ℕ) (l m : List A) (j : ℕ) (y : A) : Type 0 where
+  pub from : i ≤ j
+  pub read : j ≤ length l
+  pub slots : m ≡ lay (take i l ++ take (j - i) (x ∷ drop i l)) l
+  pub waits : y ≡ getD (x ∷ drop i l) (j - i) d
+
+module _ {A : Type 0} (d x : A) (i : ℕ) where
+  pub opened-start : (l : List A) → i ≤ length l → Opened d x i l l i x
+  opened-start l h =
+      let z : i - i ≡ 0 = omega arith in
+      record { from = omega arith; read = h; slots = rw (z, append-nil (take i l)) (sym (lay-front i l h)); waits = rw z }
+
+  opened-length : (l : List A) (j : ℕ) → i ≤ j → j ≤ length l → length (take i l ++ take (j - i) (x ∷ drop i l)) ≡ j
+  opened-length l j h k =
+      let p : length (take i l) ≡ i = length-take-le i l (omega arith) in
+      let q : length (take (j - i) (x ∷ drop i l)) ≡ j - i = length-take-le (j - i) (x ∷ drop i l) (omega (arith, length-drop i l)) in
+      length-append (take i l) (take (j - i) (x ∷ drop i l)) ∙ omega arith
+
+  -- the one that waits is stored at j
+  opened-store : (l m : List A) (j : ℕ) (y : A) → Opened d x i l m j y → j < length l → set m j y ≡ lay (take i l ++ take (j + 1 - i) (x ∷ drop i l)) l
+  opened-store l m j y s h =
+      let k : length (take i l ++ take (j - i) (x ∷ drop i l)) ≡ j = opened-length l j (s .from) (s .read) in
+      let e : j + 1 - i ≡ suc (j - i) = omega (arith, s .from) in
+      let more : take (j + 1 - i) (x ∷ drop i l) ≡ take (j - i) (x ∷ drop i l) ++ (y ∷ []) =
+      ap (λ (n : ℕ). take n (x ∷ drop i l)) e
+      ∙ take-suc (x ∷ drop i l) (j - i) d (omega (arith, length-drop i l, s .from))
+      ∙ ap (λ (w : A). take (j - i) (x ∷ drop i l) ++ (w ∷ [])) (sym (s .waits)) in
+      ap (λ (q : List A). set q j y) (s .slots)
+      ∙ ap (λ (n : ℕ). set (lay (take i l ++ take (j - i) (x ∷ drop i l)) l) n y) (sym k)
+      ∙ set-lay (take i l ++ take (j - i) (x ∷ drop i l)) l y (omega arith)
+      ∙ ap (λ (q : List A). lay q l) (append-assoc (take i l) (take (j - i) (x ∷ drop i l)) (y ∷ []) ∙ ap (λ (q : List A). take i l ++ q) (sym more))
+
+  pub opened-more : (l m : List A) (j : ℕ) (y : A) → Opened d x i l m j y → j < length l → Opened d x i l (set m j y) (j + 1) (getD m j d)
+  opened-more l m j y s h =
+      let e : j + 1 - i ≡ suc (j - i) = omega (arith, s .from) in
+      let w : i + (j - i) ≡ j = omega (arith, s .from) in
+      record {
+        from = omega (arith, s .from);
+        read = omega arith;
+        slots = opened-store l m j y s h;
+        waits =
+            ap (λ (q : List A). getD q j d) (s .slots)
+            ∙ getD-lay (take i l ++ take (j - i) (x ∷ drop i l)) l j d (omega (arith, opened-length l j (s .from) (s .read)))
+            ∙ ap (λ (n : ℕ). getD l n d) (sym w)
+            ∙ sym (getD-drop i l (j - i) d)
+            ∙ sym (ap (λ (n : ℕ). getD (x ∷ drop i l) n d) e);
+      }
+
+  -- the first n elements with x among them
+  pub opened-end : (l m : List A) (n : ℕ) (y : A) → Opened d x i l m n y → n < length l → set m n y ≡ lay (inserted i x (take n l)) l
+  opened-end l m n y s h =
+      let e : n + 1 - i ≡ suc (n - i) = omega (arith, s .from) in
+      opened-store l m n y s h
+      ∙ ap (λ (q : List A). lay q l)
+      (ap (λ (k : ℕ). take i l ++ take k (x ∷ drop i l)) e
+      ∙ ap (λ (q : List A). q ++ (x ∷ take (n - i) (drop i l))) (sym (take-take i n l (s .from)))
+      ∙ ap (λ (q : List A). take i (take n l) ++ (x ∷ q)) (take-drop i n l (s .from)))
+    where
+      take-drop : (i n : ℕ) (l : List A) → i ≤ n → take (n - i) (drop i l) ≡ drop i (take n l)
+      take-drop zero n l h = ap (λ (k : ℕ). take k l) (sub-zero n)
+      take-drop (suc i) zero l h = absurd (omega arith)
+      take-drop (suc i) (suc n) [] h = take-nil (suc n - suc i)
+      take-drop (suc i) (suc n) (y ∷ l) h = ap (λ (k : ℕ). take k (drop i l)) (suc-sub-suc n i) ∙ take-drop i n l (omega arith)

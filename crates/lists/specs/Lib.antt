@@ -2,3 +2,4 @@ pub mod Lay
 pub mod First
 pub mod Sift
 pub mod Same
+pub mod Table

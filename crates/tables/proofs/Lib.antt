@@ -1,0 +1,4 @@
+pub mod Stores
+pub mod Places
+pub mod Ascending
+pub mod Noting

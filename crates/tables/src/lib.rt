@@ -1,0 +1,20 @@
+// The tables of a tracker: each operation takes the whole state by value, changes it in place, and equals one on lists.
+ghost use mathlib.Core.Path.{_≡_};
+ghost use Prim.Native.Nat.{min};
+
+pub mod candidates;
+pub mod sequences;
+pub mod tracks;
+
+// Where a search ended.
+pub enum Place {
+    Nowhere,
+    At(usize),
+}
+
+// How many places of a table are taken, whatever its count says.
+fn taken(count: usize, most: usize) -> usize
+    ensures { λ r. ⌜ r ≡ min count most ⌝ }
+{
+    if count < most { count } else { most }
+}

@@ -1,0 +1,49 @@
+-- A batch and a report with lists in the place of arrays with a count.
+use Prim.Native.Nat.{ℕ}
+use mathlib.Core.List.{List}
+use lib.IntN.{ℤ}
+use lib.ListN.{length, take}
+use Rattle.lists.specs.Lay.{lay}
+use Rattle.settings.specs.declared.frame.FrameName.{FrameName}
+use Rattle.detections.specs.declared.Detection.{Detection}
+use Rattle.types.specs.declared.batch.ObservationBatch3D.{ObservationBatch3D}
+use Rattle.types.specs.declared.batch.ObservationAssociation.{ObservationAssociation}
+use Rattle.types.specs.declared.batch.BatchReport3D.{BatchReport3D}
+
+pub record Batch : Type 0 where
+  pub sensor : ℕ
+  pub sequence : ℕ
+  pub time : ℤ
+  pub frame : FrameName
+  pub detections : List Detection
+
+-- the detections in the first places, whatever the count says; one over 64 is refused before they are looked at
+unfoldable pub batchOf : ObservationBatch3D → Batch
+batchOf b = record { sensor = b .«sensor_id»; sequence = b .sequence; time = b .timestamp; frame = b .«frame_id»; detections = take (b .count) (b .observations) }
+
+pub record Report : Type 0 where
+  pub time : ℤ
+  pub sensor : ℕ
+  pub associations : List ObservationAssociation
+  pub unmatched : List ℕ
+
+unfoldable pub reportOf : BatchReport3D → Report
+reportOf r =
+    record {
+      time = r .timestamp;
+      sensor = r .«sensor_id»;
+      associations = take (r .«association_count») (r .associations);
+      unmatched = take (r .«unmatched_track_count») (r .«unmatched_track_ids»);
+    }
+
+-- lists in the report's first places; those behind them are as they were
+unfoldable pub overReport : BatchReport3D → List ObservationAssociation → List ℕ → BatchReport3D
+overReport r l ids =
+    record {
+      timestamp = r .timestamp;
+      «sensor_id» = r .«sensor_id»;
+      associations = lay l (r .associations);
+      «association_count» = length l;
+      «unmatched_track_ids» = lay ids (r .«unmatched_track_ids»);
+      «unmatched_track_count» = length ids;
+    }

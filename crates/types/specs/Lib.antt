@@ -1,0 +1,5 @@
+pub mod Track
+pub mod Batches
+pub mod States
+pub mod Refusals
+pub mod Fresh
