@@ -3,9 +3,8 @@ use mathlib.Core.Path.{_≡_, refl, sym}
 use mathlib.Core.Bool.{Bool, true, false, _&&_}
 use Prim.Native.Nat.{ℕ}
 use native.Mathlib.Omega.{arith}
-use Rattle.number.specs.Reply.{Reply, refused, given}
+use Rattle.number.specs.Reply.{Reply, refused, given, refuseUnless}
 use Rattle.matrix.specs.Flat.{rowsOf}
-use Rattle.math.specs.Refusing.{refuseUnless}
 use Rattle.math.specs.Checks.{finiteVector}
 use Rattle.math.specs.Linalg.{validated}
 use Rattle.detections.specs.declared.Detection.{Detection}

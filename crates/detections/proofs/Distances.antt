@@ -6,7 +6,7 @@ use lib.Dec.{ltb}
 use lib.Ieee.{Float, nan, inf, fin, Format, binary64, prec, emax, low, up, down, odd, units, round, sum, neg, add, sub, mul, isNan}
 use lib.Ieee.Scale.{finite}
 use Rattle.number.specs.Reply.{given}
-use Rattle.number.specs.Root.{rootReply}
+use Rattle.square_root.specs.Root.{rootReply}
 use Rattle.number.proofs.Zeros.{impossible}
 use Rattle.matrix.specs.Matrix.{Vector, item, minusVector}
 use Rattle.math.specs.Checks.{finiteVector}

@@ -6,8 +6,7 @@ use Prim.Native.Nat.{ℕ}
 use native.Mathlib.Omega.{arith}
 use lib.Ieee.{Float, le}
 use lib.Ieee.Scale.{finite}
-use Rattle.number.specs.Reply.{Reply, refused, given}
-use Rattle.math.specs.Refusing.{andThen}
+use Rattle.number.specs.Reply.{Reply, refused, given, andThen}
 use Rattle.filter.specs.declared.KalmanFilter.{KalmanFilter}
 use Rattle.filter.specs.Filter.{distanceFrom, squaredMahalanobis}
 use Rattle.filter.proofs.Split.{checked-distance}

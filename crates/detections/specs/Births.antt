@@ -2,7 +2,7 @@
 use mathlib.Core.Bool.{Bool, false}
 use lib.Ieee.{Float, nan, lt}
 use Rattle.number.specs.Reply.{Reply, refused, given}
-use Rattle.number.specs.Root.{rootReply}
+use Rattle.square_root.specs.Root.{rootReply}
 use Rattle.matrix.specs.Matrix.{Vector, dot, minusVector}
 use Rattle.detections.specs.declared.Score.{Score}
 use Rattle.detections.specs.declared.Score.the-variants.{Unscored, Scored}

@@ -1,9 +1,8 @@
 -- When a detection is refused.
 use mathlib.Core.Bool.{Bool, true, _&&_}
 use lib.Ieee.Scale.{finite}
-use Rattle.number.specs.Reply.{Reply}
+use Rattle.number.specs.Reply.{Reply, refuseUnless}
 use Rattle.matrix.specs.Flat.{rowsOf}
-use Rattle.math.specs.Refusing.{refuseUnless}
 use Rattle.math.specs.Checks.{finiteVector}
 use Rattle.math.specs.Linalg.{validated}
 use Rattle.detections.specs.declared.Velocity.{Velocity}

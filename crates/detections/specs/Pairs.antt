@@ -3,8 +3,8 @@ use mathlib.Core.Bool.{Bool, true, false, cond}
 use lib.Dec.{eqb}
 use lib.Ieee.{Float, binary64, add, mul, le}
 use lib.Ieee.Scale.{finite}
-use Rattle.number.specs.Reply.{Reply, refused, given}
-use Rattle.math.specs.Refusing.{andThen, numberOf}
+use Rattle.number.specs.Reply.{Reply, refused, given, andThen}
+use Rattle.math.specs.Refusing.{numberOf}
 use Rattle.filter.specs.declared.KalmanFilter.{KalmanFilter}
 use Rattle.filter.specs.Filter.{expectedOf, distanceFrom}
 use Rattle.detections.specs.declared.Class.{Class}

@@ -18,9 +18,9 @@ pub fn distance(a: [f64; 3], b: [f64; 3]) -> f64
     ensures { λ r. ⌜ r ≡ distanceOf a b ⌝ }
 {
     let u = matrix::sum::sub3(a, b);
-    match number::root::root(product::dot3(u, u)) {
-        number::root::SquareRoot::Value(x) => x,
-        number::root::SquareRoot::Refused => 0.0 / 0.0,
+    match square_root::root(product::dot3(u, u)) {
+        square_root::SquareRoot::Value(x) => x,
+        square_root::SquareRoot::Refused => 0.0 / 0.0,
     }
 }
 

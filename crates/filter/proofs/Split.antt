@@ -7,7 +7,7 @@ use Rattle.matrix.specs.Matrix.{Vector, Matrix, rowTimes, product, congruence, 
 use Rattle.matrix.specs.Flat.{rowOf, rowsOf, flatOf}
 use Rattle.math.specs.Checks.{finiteVector}
 use Rattle.math.specs.Linalg.{validated, squaredDistance}
-use Rattle.math.specs.Models.{selection, isotropic}
+use Rattle.models.specs.Models.{selection, isotropic}
 use Rattle.filter.specs.declared.KalmanFilter.{KalmanFilter}
 use Rattle.filter.specs.Kalman.{innovation, spread, measuredBy, measured, updateReply, distanceOf}
 use Rattle.filter.specs.Filter.{estimateOf, stored, updatedByPosition, updatedByVelocity, updatedByCheckedVelocity, squaredMahalanobis, expectedOf, innovationFrom, spreadFrom, distanceFrom, updatedFrom}

@@ -2,16 +2,16 @@
 use mathlib.Core.Path.{_≡_, refl, sym, ap, _∙_, subst}
 use mathlib.Core.Bool.{true, false}
 use Prim.Native.Nat.{ℕ}
-use Rattle.number.specs.Reply.{Reply, refused, given}
-use Rattle.matrix.specs.Matrix.{Vector, Matrix, product, transposed}
+use Rattle.number.specs.Reply.{Reply, refused, given, andThen, leftIn}
+use Rattle.matrix.specs.Matrix.{Vector, Matrix}
 use Rattle.math.specs.Checks.{finiteVector, finiteMatrix}
-use Rattle.math.specs.Cholesky.{cholesky, gainBy}
+use Rattle.math.specs.Cholesky.{cholesky}
 use Rattle.math.specs.Linalg.{validated}
 use Rattle.filter.specs.declared.KalmanFilter.{KalmanFilter}
 use Rattle.filter.specs.declared.Outcome.the-variants.{Done}
 use Rattle.filter.specs.declared.Step.{Step}
-use Rattle.filter.specs.Kalman.{Estimate, finished, moved, predictReply, corrected, gained, measuredBy, checked}
-use Rattle.filter.specs.Filter.{filterOf, stored, leftIn, Answer}
+use Rattle.filter.specs.Kalman.{Estimate, finished, moved, predictReply, corrected, gained, measuredWith, measuredBy, checked}
+use Rattle.filter.specs.Filter.{filterOf, stored, Answer}
 
 -- ---- answers
 
@@ -77,10 +77,7 @@ module _ (k n : ℕ) (u : Vector) (h r : Matrix) (e : Estimate) where
   unfolding gained
   infinite-gain gain t = rw t
 
-  pub has-gain : (s l : Matrix) → given l ≡ cholesky k s → gained k n u h r e (gainBy k n l (product n n k (e .covariance) (transposed k n h))) ≡ measuredBy k n u s h r e
+  -- by the factor of s, found or not
+  pub by-factor : (s : Matrix) (x : Reply Matrix) → x ≡ cholesky k s → andThen x (λ l. measuredWith k n u h r e l) ≡ measuredBy k n u s h r e
   unfolding measuredBy
-  has-gain s l t = rw (← t)
-
-  pub no-gain : (s : Matrix) {m : ℕ} → refused m ≡ cholesky k s → refused m ≡ measuredBy k n u s h r e
-  unfolding measuredBy
-  no-gain s t = rw (← t)
+  by-factor s x t = ap (λ (y : Reply Matrix). andThen y (λ l. measuredWith k n u h r e l)) t

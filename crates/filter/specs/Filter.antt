@@ -2,12 +2,12 @@
 use Prim.Native.Nat.{ℕ}
 use mathlib.Core.Path.{_≡_}
 use lib.Ieee.{Float, binary64, mul}
-use Rattle.number.specs.Reply.{Reply, refused, given}
+use Rattle.number.specs.Reply.{Reply, refused, given, andThen, leftIn}
 use Rattle.matrix.specs.Matrix.{Vector, Matrix, timesVector, congruence, plus, minusVector, symmetrized}
 use Rattle.matrix.specs.Flat.{rowsOf, flatOf}
-use Rattle.math.specs.Refusing.{andThen, numberOf}
+use Rattle.math.specs.Refusing.{numberOf}
 use Rattle.math.specs.Linalg.{squaredDistance}
-use Rattle.math.specs.Models.{transition, noise, selection, isotropic}
+use Rattle.models.specs.Models.{transition, noise, selection, isotropic}
 use Rattle.filter.specs.declared.KalmanFilter.{KalmanFilter}
 use Rattle.filter.specs.declared.Expected.{Expected}
 use Rattle.filter.specs.declared.Outcome.{Outcome}
@@ -82,11 +82,7 @@ replyOfStep s = of (s .outcome)
     of Done = given (s .filter)
     of (Refused e) = refused (numberOf e)
 
--- 01, What each call declines: "A refusal answers its number and changes nothing lent or held."
-abbrev pub leftIn : Reply KalmanFilter → KalmanFilter → KalmanFilter
-leftIn (refused n) before = before
-leftIn (given after) before = after
-
+-- the reply, and the filter that the call leaves
 pub record Answer (before : KalmanFilter) (s : Step) (reply : Reply KalmanFilter) : Type 0 where
   pub is : replyOfStep s ≡ reply
   pub left : s .filter ≡ leftIn reply before

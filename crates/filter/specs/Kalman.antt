@@ -2,9 +2,8 @@
 -- 01, Filter: "Update takes K from (symmetrized S) X = (P Hᵀ)ᵀ and the covariance (I−KH)P(I−KH)ᵀ + K R Kᵀ, symmetrized."
 use Prim.Native.Nat.{ℕ}
 use lib.Ieee.{Float}
-use Rattle.number.specs.Reply.{Reply, refused, given}
+use Rattle.number.specs.Reply.{Reply, refused, given, refuseUnless, andThen}
 use Rattle.matrix.specs.Matrix.{Vector, Matrix, timesVector, product, transposed, congruence, plusVector, minusVector, plus, minus, symmetrized, identity}
-use Rattle.math.specs.Refusing.{refuseUnless, andThen}
 use Rattle.math.specs.Checks.{finiteVector, finiteMatrix}
 use Rattle.math.specs.Cholesky.{cholesky, gainBy}
 use Rattle.math.specs.Linalg.{validated, squaredDistance}
@@ -51,9 +50,13 @@ corrected k n u h r e gain =
 unfoldable pub gained : ℕ → ℕ → Vector → Matrix → Matrix → Estimate → Matrix → Reply Estimate
 gained k n u h r e gain = refuseUnless (finiteMatrix n k gain) 9 (finished n (corrected k n u h r e gain))
 
+-- with the innovation u, the factor of whose covariance has the columns l
+unfoldable pub measuredWith : ℕ → ℕ → Vector → Matrix → Matrix → Estimate → Matrix → Reply Estimate
+measuredWith k n u h r e l = gained k n u h r e (gainBy k n l (product n n k (e .covariance) (transposed k n h)))
+
 -- with the innovation u, whose covariance is s
 unfoldable pub measuredBy : ℕ → ℕ → Vector → Matrix → Matrix → Matrix → Estimate → Reply Estimate
-measuredBy k n u s h r e = andThen (cholesky k s) (λ l. gained k n u h r e (gainBy k n l (product n n k (e .covariance) (transposed k n h))))
+measuredBy k n u s h r e = andThen (cholesky k s) (λ l. measuredWith k n u h r e l)
 
 unfoldable pub measured : ℕ → ℕ → Vector → Matrix → Matrix → Estimate → Reply Estimate
 measured k n z h r e = measuredBy k n (innovation k n z h (e .state)) (spread k n h r (e .covariance)) h r e

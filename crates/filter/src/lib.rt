@@ -1,10 +1,12 @@
 // The Kalman filter of a track. Each call gives the filter as it is after the call; a refused one gives it back as it was.
 ghost use mathlib.Core.Path.{_≡_};
-ghost use Rattle.math.specs.Linalg.{replyOfDistance};
-ghost use Rattle.math.specs.Models.{selection};
+ghost use Rattle.matrix.specs.Matrix.{congruence};
+ghost use Rattle.matrix.specs.Flat.{rowsOf};
+ghost use Rattle.math.specs.Linalg.{columnsOf2, columnsOf3, replyOfFactor2, replyOfFactor3, replyOfDistance};
+ghost use Rattle.models.specs.Models.{selection};
 ghost use Rattle.math.specs.Refusing.{numberOf};
-ghost use Rattle.number.specs.Reply.{refused};
-ghost use Rattle.filter.specs.Kalman.{estimate, finished, moved, corrected, gained, measuredBy, measured};
+ghost use Rattle.number.specs.Reply.{refused, andThen};
+ghost use Rattle.filter.specs.Kalman.{estimate, finished, moved, innovation, spread, corrected, gained, measuredWith, measuredBy, measured};
 ghost use Rattle.filter.specs.Filter.{filterWith, estimateOf, stored, created, predicted, updatedByPosition, updatedByVelocity, updatedByCheckedVelocity, squaredMahalanobis, expectedOf, distanceFrom, updatedFrom, Answer};
 
 // A state of position and velocity, and its covariance, row after row.
@@ -80,9 +82,9 @@ fn move_by(f: KalmanFilter, phi: [[f64; 6]; 6], q: [[f64; 6]; 6]) -> Step
 pub fn predict(f: KalmanFilter, dt: f64, q: f64) -> Step
     ensures { λ r. ⌜ Answer f r (predicted dt q f) ⌝ }
 {
-    let noise = math::models::cv_q6(dt, q);
+    let noise = models::cv_q6(dt, q);
     if math::linalg::is_finite_6x6(noise) {
-        move_by(f, math::models::cv_f6(dt), noise)
+        move_by(f, models::cv_f6(dt), noise)
     } else {
         refuse(f, math::linalg::Refusal::NonFiniteValue)
     }
@@ -121,7 +123,7 @@ fn correct3(
 {
     let x = f.state;
     let state = matrix::sum::add6(x, product::mul_6x3_vector(k, u));
-    let a = matrix::sum::complement6(product::mul_6x3_3x6(k, math::models::measurement_h3()));
+    let a = matrix::sum::complement6(product::mul_6x3_3x6(k, models::measurement_h3()));
     let left = product::congruence_6x6(a, p);
     let covariance = matrix::sum::symmetrized_sum6(left, product::congruence_6x3(k, noise));
     finish(f, state, covariance)
@@ -144,22 +146,44 @@ fn correct_finite3(
     }
 }
 
+// The filter after a measurement with the innovation u, by the factor l of its covariance.
+fn measure_with3(
+    f: KalmanFilter,
+    u: [f64; 3],
+    noise: [[f64; 3]; 3],
+    l: math::linalg::Lower3,
+) -> Step
+    ensures { λ r. ⌜ Answer f r (stored (measuredWith 3 6 u (selection 3 6 0) noise (estimateOf f) (columnsOf3 l))) ⌝ }
+{
+    let flat = f.covariance;
+    let p = matrix::flat::rows_6x6(flat);
+    let k = math::linalg::gain3(
+        l,
+        product::mul_6x6_transposed_3x6(p, models::measurement_h3()),
+    );
+    correct_finite3(f, u, noise, p, k)
+}
+
+// The same, where there is a factor.
+fn measure_by3(
+    f: KalmanFilter,
+    u: [f64; 3],
+    factor: math::linalg::Factor3,
+    noise: [[f64; 3]; 3],
+) -> Step
+    ensures { λ r. ⌜ Answer f r (stored (andThen (replyOfFactor3 factor) (λ l. measuredWith 3 6 u (selection 3 6 0) noise (estimateOf f) l))) ⌝ }
+{
+    match factor {
+        math::linalg::Factor3::Lower(l) => measure_with3(f, u, noise, l),
+        math::linalg::Factor3::Fails => refuse(f, math::linalg::Refusal::NotPositiveDefinite),
+    }
+}
+
 // The filter after a measurement with the innovation u, whose covariance is s.
 fn measure3(f: KalmanFilter, u: [f64; 3], s: [[f64; 3]; 3], noise: [[f64; 3]; 3]) -> Step
     ensures { λ r. ⌜ Answer f r (stored (measuredBy 3 6 u s (selection 3 6 0) noise (estimateOf f))) ⌝ }
 {
-    match math::linalg::cholesky3(s) {
-        math::linalg::Factor3::Lower(l) => {
-            let flat = f.covariance;
-            let p = matrix::flat::rows_6x6(flat);
-            let k = math::linalg::gain3(
-                l,
-                product::mul_6x6_transposed_3x6(p, math::models::measurement_h3()),
-            );
-            correct_finite3(f, u, noise, p, k)
-        }
-        math::linalg::Factor3::Fails => refuse(f, math::linalg::Refusal::NotPositiveDefinite),
-    }
+    measure_by3(f, u, math::linalg::cholesky3(s), noise)
 }
 
 // The filter corrected by the gain k: the state by the innovation u, the covariance by the Joseph form.
@@ -174,7 +198,7 @@ fn correct2(
 {
     let x = f.state;
     let state = matrix::sum::add6(x, product::mul_6x2_vector(k, u));
-    let a = matrix::sum::complement6(product::mul_6x2_2x6(k, math::models::velocity_h2()));
+    let a = matrix::sum::complement6(product::mul_6x2_2x6(k, models::velocity_h2()));
     let left = product::congruence_6x6(a, p);
     let covariance = matrix::sum::symmetrized_sum6(left, product::congruence_6x2(k, noise));
     finish(f, state, covariance)
@@ -197,22 +221,49 @@ fn correct_finite2(
     }
 }
 
+// The filter after a measurement with the innovation u, by the factor l of its covariance.
+fn measure_with2(
+    f: KalmanFilter,
+    u: [f64; 2],
+    noise: [[f64; 2]; 2],
+    l: math::linalg::Lower2,
+) -> Step
+    ensures { λ r. ⌜ Answer f r (stored (measuredWith 2 6 u (selection 2 6 3) noise (estimateOf f) (columnsOf2 l))) ⌝ }
+{
+    let flat = f.covariance;
+    let p = matrix::flat::rows_6x6(flat);
+    let k = math::linalg::gain2(l, product::mul_6x6_transposed_2x6(p, models::velocity_h2()));
+    correct_finite2(f, u, noise, p, k)
+}
+
+// The same, where there is a factor.
+fn measure_by2(
+    f: KalmanFilter,
+    u: [f64; 2],
+    factor: math::linalg::Factor2,
+    noise: [[f64; 2]; 2],
+) -> Step
+    ensures { λ r. ⌜ Answer f r (stored (andThen (replyOfFactor2 factor) (λ l. measuredWith 2 6 u (selection 2 6 3) noise (estimateOf f) l))) ⌝ }
+{
+    match factor {
+        math::linalg::Factor2::Lower(l) => measure_with2(f, u, noise, l),
+        math::linalg::Factor2::Fails => refuse(f, math::linalg::Refusal::NotPositiveDefinite),
+    }
+}
+
 // The filter after a measurement with the innovation u, whose covariance is s.
 fn measure2(f: KalmanFilter, u: [f64; 2], s: [[f64; 2]; 2], noise: [[f64; 2]; 2]) -> Step
     ensures { λ r. ⌜ Answer f r (stored (measuredBy 2 6 u s (selection 2 6 3) noise (estimateOf f))) ⌝ }
 {
-    match math::linalg::cholesky2(s) {
-        math::linalg::Factor2::Lower(l) => {
-            let flat = f.covariance;
-            let p = matrix::flat::rows_6x6(flat);
-            let k = math::linalg::gain2(
-                l,
-                product::mul_6x6_transposed_2x6(p, math::models::velocity_h2()),
-            );
-            correct_finite2(f, u, noise, p, k)
-        }
-        math::linalg::Factor2::Fails => refuse(f, math::linalg::Refusal::NotPositiveDefinite),
-    }
+    measure_by2(f, u, math::linalg::cholesky2(s), noise)
+}
+
+// The covariance of the position that f expects.
+fn position_spread(f: KalmanFilter) -> [[f64; 3]; 3]
+    ensures { λ r. ⌜ r ≡ congruence 3 6 (selection 3 6 0) (rowsOf 6 6 (f .covariance)) ⌝ }
+{
+    let flat = f.covariance;
+    product::congruence_3x6(models::measurement_h3(), matrix::flat::rows_6x6(flat))
 }
 
 // Where f expects a position: once for a filter, whatever is measured.
@@ -220,13 +271,8 @@ pub fn expected_position(f: KalmanFilter) -> Expected
     ensures { λ r. ⌜ r ≡ expectedOf f ⌝ }
 {
     let x = f.state;
-    let flat = f.covariance;
-    let h = math::models::measurement_h3();
-    let position = product::mul_3x6_vector(h, x);
-    let covariance = matrix::flat::flat_3x3(product::congruence_3x6(
-        h,
-        matrix::flat::rows_6x6(flat),
-    ));
+    let position = product::mul_3x6_vector(models::measurement_h3(), x);
+    let covariance = matrix::flat::flat_3x3(position_spread(f));
     Expected {
         position,
         covariance,
@@ -247,13 +293,32 @@ pub fn distance_from(m: Expected, z: [f64; 3], noise: [f64; 9]) -> math::linalg:
     math::linalg::squared_mahalanobis3(u, s)
 }
 
+// What is measured beyond what f expects.
+fn innovation3(f: KalmanFilter, z: [f64; 3]) -> [f64; 3]
+    ensures { λ r. ⌜ r ≡ innovation 3 6 z (selection 3 6 0) (f .state) ⌝ }
+{
+    let x = f.state;
+    matrix::sum::sub3(z, product::mul_3x6_vector(models::measurement_h3(), x))
+}
+
+// The covariance of an innovation that is measured with the covariance `noise`.
+fn spread3(f: KalmanFilter, noise: [[f64; 3]; 3]) -> [[f64; 3]; 3]
+    ensures { λ r. ⌜ r ≡ spread 3 6 (selection 3 6 0) noise (rowsOf 6 6 (f .covariance)) ⌝ }
+{
+    matrix::sum::symmetrized_sum3(position_spread(f), noise)
+}
+
 // The squared distance of a measured position from f.
 pub fn squared_mahalanobis(f: KalmanFilter, z: [f64; 3], noise: [f64; 9]) -> math::linalg::Distance
     ensures { λ r. ⌜ replyOfDistance r ≡ squaredMahalanobis z noise f ⌝ }
 {
     if math::linalg::is_finite3(z) {
-        match math::linalg::validate_covariance3(matrix::flat::rows_3x3(noise)) {
-            math::linalg::Validity::Valid => distance_from(expected_position(f), z, noise),
+        let rows = matrix::flat::rows_3x3(noise);
+        match math::linalg::validate_covariance3(rows) {
+            math::linalg::Validity::Valid => {
+                let u = innovation3(f, z);
+                math::linalg::squared_mahalanobis3(u, spread3(f, rows))
+            }
             math::linalg::Validity::Refused(why) => math::linalg::Distance::Refused(why),
         }
     } else {
@@ -273,13 +338,16 @@ pub fn update_from(m: Expected, f: KalmanFilter, z: [f64; 3], noise: [f64; 9]) -
     measure3(f, u, s, rows)
 }
 
-// The filter after a position z was measured, with the covariance `noise`.
+// The filter after a position z was measured, with the covariance `noise`. The innovation's factor comes before the checks, which are done while its roots are on their way.
 pub fn update_position(f: KalmanFilter, z: [f64; 3], noise: [f64; 9]) -> Step
     ensures { λ r. ⌜ Answer f r (updatedByPosition z noise f) ⌝ }
 {
+    let rows = matrix::flat::rows_3x3(noise);
+    let u = innovation3(f, z);
+    let factor = math::linalg::cholesky3(spread3(f, rows));
     if math::linalg::is_finite3(z) {
-        match math::linalg::validate_covariance3(matrix::flat::rows_3x3(noise)) {
-            math::linalg::Validity::Valid => update_from(expected_position(f), f, z, noise),
+        match math::linalg::validate_covariance3(rows) {
+            math::linalg::Validity::Valid => measure_by3(f, u, factor, rows),
             math::linalg::Validity::Refused(why) => refuse(f, why),
         }
     } else {
@@ -287,36 +355,44 @@ pub fn update_position(f: KalmanFilter, z: [f64; 3], noise: [f64; 9]) -> Step
     }
 }
 
-// The filter after a velocity v along x and y was measured, with a covariance that may be one.
-fn measure_velocity(f: KalmanFilter, v: [f64; 2], noise: [[f64; 2]; 2]) -> Step
-    ensures { λ r. ⌜ Answer f r (stored (measured 2 6 v (selection 2 6 3) noise (estimateOf f))) ⌝ }
+// What is measured beyond what f expects.
+fn innovation2(f: KalmanFilter, z: [f64; 2]) -> [f64; 2]
+    ensures { λ r. ⌜ r ≡ innovation 2 6 z (selection 2 6 3) (f .state) ⌝ }
 {
     let x = f.state;
+    matrix::sum::sub2(z, product::mul_2x6_vector(models::velocity_h2(), x))
+}
+
+// The covariance of an innovation that is measured with the covariance `noise`.
+fn spread2(f: KalmanFilter, noise: [[f64; 2]; 2]) -> [[f64; 2]; 2]
+    ensures { λ r. ⌜ r ≡ spread 2 6 (selection 2 6 3) noise (rowsOf 6 6 (f .covariance)) ⌝ }
+{
     let flat = f.covariance;
-    let h = math::models::velocity_h2();
-    let u = matrix::sum::sub2(v, product::mul_2x6_vector(h, x));
-    let s = matrix::sum::symmetrized_sum2(
-        product::congruence_2x6(h, matrix::flat::rows_6x6(flat)),
-        noise,
-    );
-    measure2(f, u, s, noise)
+    let h = models::velocity_h2();
+    let p = matrix::flat::rows_6x6(flat);
+    matrix::sum::symmetrized_sum2(product::congruence_2x6(h, p), noise)
 }
 
 // The filter after a measured velocity that is finite, with a deviation whose square may be a variance.
 pub fn update_checked_velocity(f: KalmanFilter, v: [f64; 2], std: f64) -> Step
     ensures { λ r. ⌜ Answer f r (updatedByCheckedVelocity v std f) ⌝ }
 {
-    measure_velocity(f, v, math::models::velocity_r2(std))
+    let noise = models::velocity_r2(std);
+    let u = innovation2(f, v);
+    let s = spread2(f, noise);
+    measure2(f, u, s, noise)
 }
 
 // The filter after a velocity v along x and y was measured, with the deviation std.
 pub fn update_velocity(f: KalmanFilter, v: [f64; 2], std: f64) -> Step
     ensures { λ r. ⌜ Answer f r (updatedByVelocity v std f) ⌝ }
 {
-    let noise = math::models::velocity_r2(std);
+    let noise = models::velocity_r2(std);
+    let u = innovation2(f, v);
+    let factor = math::linalg::cholesky2(spread2(f, noise));
     if math::linalg::is_finite2(v) {
         match math::linalg::validate_covariance2(noise) {
-            math::linalg::Validity::Valid => measure_velocity(f, v, noise),
+            math::linalg::Validity::Valid => measure_by2(f, u, factor, noise),
             math::linalg::Validity::Refused(why) => refuse(f, why),
         }
     } else {

@@ -1,14 +1,14 @@
 -- What the tests on the way of an answer say of the definition, whatever the size. Assumes nothing.
-use mathlib.Core.Path.{_≡_, refl}
-use mathlib.Core.Bool.{true, false}
+use mathlib.Core.Path.{_≡_, refl, _∙_}
+use mathlib.Core.Bool.{Bool, true, false}
 use Prim.Native.Nat.{ℕ}
 use lib.Ieee.{Float, lt}
 use lib.Ieee.Scale.{finite}
-use Rattle.number.specs.Reply.{Reply, refused, given}
+use Rattle.number.specs.Reply.{Reply, refused, given, refuseUnless}
 use Rattle.matrix.specs.Matrix.{Vector, Matrix, nought, dot}
 use Rattle.math.specs.Checks.{finiteVector, finiteMatrix, isSymmetric}
 use Rattle.math.specs.Cholesky.{cholesky, solved}
-use Rattle.math.specs.Linalg.{factorable, validated, distanceReply, distanceBy, squaredDistance}
+use Rattle.math.specs.Linalg.{factorable, entriesChecked, entriesReply, validated, distanceReply, distanceBy, squaredDistance}
 
 -- ---- a squared distance
 
@@ -54,14 +54,41 @@ module _ (n : ℕ) (a : Matrix) where
   unfolding factorable
   no-factor e = rw (← e)
 
-  pub factor-decides : {r : Reply (Unit {0})} → finiteMatrix n n a ≡ true → isSymmetric n a ≡ true → r ≡ factorable n a → r ≡ validated n a
-  unfolding validated
-  factor-decides f s e = rw (f, s) e
+  pub entries-finite : finiteMatrix n n a ≡ true → isSymmetric n a ≡ true → given tt ≡ entriesReply n a
+  unfolding entriesChecked
+  entries-finite f s = rw (f, s)
 
-  pub not-symmetric : finiteMatrix n n a ≡ true → isSymmetric n a ≡ false → refused 6 ≡ validated n a
-  unfolding validated
-  not-symmetric f s = rw (f, s)
+  pub not-symmetric : {A : Type 0} (r : Reply A) → finiteMatrix n n a ≡ true → isSymmetric n a ≡ false → refused 6 ≡ entriesChecked n a r
+  unfolding entriesChecked
+  not-symmetric r f s = rw (f, s)
 
-  pub not-finite : finiteMatrix n n a ≡ false → refused 5 ≡ validated n a
+  pub not-finite : {A : Type 0} (r : Reply A) → finiteMatrix n n a ≡ false → refused 5 ≡ entriesChecked n a r
+  unfolding entriesChecked
+  not-finite r f = rw f
+
+  -- what the entries' own check says of every reply behind it
+  pub entries-pass : {A : Type 0} (r : Reply A) → given tt ≡ entriesReply n a → r ≡ entriesChecked n a r
+  unfolding entriesChecked
+  entries-pass {A} r e = go (finiteMatrix n n a) (isSymmetric n a) e
+    where
+      go : (b c : Bool) → given tt ≡ refuseUnless {A = Unit {0}} b 5 (refuseUnless c 6 (given tt)) → r ≡ refuseUnless b 5 (refuseUnless c 6 r)
+      go true true h = refl
+      go true false h = cc
+      go false c h = cc
+
+  pub entries-stop : {A : Type 0} (r : Reply A) {m : ℕ} → refused m ≡ entriesReply n a → refused m ≡ entriesChecked n a r
+  unfolding entriesChecked
+  entries-stop {A} r {m} e = go (finiteMatrix n n a) (isSymmetric n a) e
+    where
+      go : (b c : Bool) → refused m ≡ refuseUnless {A = Unit {0}} b 5 (refuseUnless c 6 (given tt)) → refused m ≡ refuseUnless b 5 (refuseUnless c 6 r)
+      go true true h = cc
+      go true false h = cc
+      go false c h = cc
+
+  pub factor-decides : {r : Reply (Unit {0})} → given tt ≡ entriesReply n a → r ≡ factorable n a → r ≡ validated n a
   unfolding validated
-  not-finite f = rw f
+  factor-decides e f = f ∙ entries-pass (factorable n a) e
+
+  pub entries-decide : {m : ℕ} → refused m ≡ entriesReply n a → refused m ≡ validated n a
+  unfolding validated
+  entries-decide e = entries-stop (factorable n a) e

@@ -1,13 +1,15 @@
 -- One column of the Cholesky factor, whatever the size and the column. Assumes nothing.
-use mathlib.Core.Path.{_≡_, refl}
-use mathlib.Core.Bool.{true, false}
+use mathlib.Core.Path.{_≡_, refl, sym, ap, _∙_}
+use mathlib.Core.Bool.{Bool, true, false}
 use mathlib.Core.List.{[], _∷_, _++_}
 use Prim.Native.Nat.{ℕ, suc, _+_}
 use lib.Ieee.{Float, lt}
 use Rattle.number.specs.Reply.{Reply, refused, given}
-use Rattle.number.specs.Root.{rootReply}
+use Rattle.square_root.specs.Root.{rootReply}
+use Rattle.square_root.proofs.Cases.{above-given}
 use Rattle.matrix.specs.Matrix.{Matrix, nought}
-use Rattle.math.specs.Cholesky.{remainder, columnBy, pivotRoot, columnsFrom}
+use Rattle.math.specs.Cholesky.{remainder, columnBy, pivotRoot, rootIn, columnsFrom}
+use Rattle.math.specs.Linalg.{whetherGiven, replyOfFound}
 
 -- ---- the root of a pivot
 
@@ -23,6 +25,12 @@ pub pivot-low : (p : Float) → lt nought p ≡ false → refused 7 ≡ pivotRoo
 unfolding pivotRoot
 pivot-low p t = rw t
 
+-- the root alone says it all of a pivot greater than 0
+pub pivot-found : (p : Float) {d : Float} → lt nought p ≡ true → d ≡ rootIn (pivotRoot p) → given d ≡ pivotRoot p
+pivot-found p t e =
+    let g = pivot-given p t (above-given p t .is) in
+    ap given (e ∙ sym (ap rootIn g)) ∙ g
+
 -- ---- a column, and what follows it
 
 module _ (left n : ℕ) (a : Matrix) (j : ℕ) (columns : Matrix) where
@@ -33,3 +41,13 @@ module _ (left n : ℕ) (a : Matrix) (j : ℕ) (columns : Matrix) where
   pub column-refused : {m : ℕ} → refused m ≡ pivotRoot (remainder a columns j j) → refused m ≡ columnsFrom (suc left) n a j columns
   unfolding columnsFrom
   column-refused e = rw (← e)
+
+-- ---- the last column, whose root is asked for and not read
+
+last-by : (n : ℕ) (a : Matrix) (j : ℕ) (columns : Matrix) (t : Bool) → lt nought (remainder a columns j j) ≡ t → replyOfFound t ≡ whetherGiven (columnsFrom 1 n a j columns)
+unfolding columnsFrom
+last-by n a j columns true e = let g = above-given (remainder a columns j j) e in ap whetherGiven (column-given 0 n a j columns (pivot-given (remainder a columns j j) e (g .is)) refl)
+last-by n a j columns false e = ap whetherGiven (column-refused 0 n a j columns (pivot-low (remainder a columns j j) e))
+
+pub last-column : (n : ℕ) (a : Matrix) (j : ℕ) (columns : Matrix) → replyOfFound (lt nought (remainder a columns j j)) ≡ whetherGiven (columnsFrom 1 n a j columns)
+last-column n a j columns = last-by n a j columns (lt nought (remainder a columns j j)) refl

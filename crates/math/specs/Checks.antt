@@ -1,9 +1,9 @@
 -- When a matrix is finite and when it counts as symmetric, for any size.
 use Prim.Native.Nat.{ℕ, zero, suc}
-use mathlib.Core.Bool.{Bool, true, _&&_, cond}
-use lib.Ieee.{Float, binary64, add, sub, mul, lt, le, ofBits}
+use mathlib.Core.Bool.{Bool, true, _&&_}
+use lib.Ieee.{Float, binary64, add, sub, mul, le, ofBits}
 use lib.Ieee.Scale.{finite}
-use Rattle.number.specs.Float.{absoluteOf}
+use Rattle.number.specs.Float.{absoluteOf, largerOf}
 use Rattle.matrix.specs.Matrix.{Vector, Matrix, item, row, entry, tabulate, nought}
 
 -- f 0, f 1, .. of n tests, all true
@@ -17,10 +17,6 @@ finiteVector n x = allOf n (λ k. finite (item x k))
 
 unfoldable pub finiteMatrix : ℕ → ℕ → Matrix → Bool
 finiteMatrix n p a = allOf n (λ i. finiteVector p (row a i))
-
--- the larger of two; a NaN in the second place is passed over
-abbrev pub largerOf : Float → Float → Float
-largerOf a b = cond (lt a b) b a
 
 -- the largest of m, |f 0|, .. of n numbers
 abbrev pub largestOf : ℕ → (ℕ → Float) → Float → Float

@@ -6,10 +6,9 @@ use mathlib.Core.Bool.{Bool, true, false, cond}
 use mathlib.Core.List.{List, [], _∷_, _++_}
 use lib.Dec.{ltb, eqb}
 use lib.Ieee.{Float, binary64, sub, mul, div, lt}
-use Rattle.number.specs.Reply.{Reply, refused, given}
-use Rattle.number.specs.Root.{rootReply}
+use Rattle.number.specs.Reply.{Reply, refused, given, andThen}
+use Rattle.square_root.specs.Root.{rootReply}
 use Rattle.matrix.specs.Matrix.{Vector, Matrix, item, row, entry, tabulate, nought, sumOf, transposed}
-use Rattle.math.specs.Refusing.{andThen}
 
 -- x less f 0, less f 1, .. of n terms, one after the other
 abbrev pub lessEach : ℕ → (ℕ → Float) → Float → Float
@@ -42,6 +41,11 @@ orFails false r = refused 7
 
 unfoldable pub pivotRoot : Float → Reply Float
 pivotRoot p = orFails (lt nought p) (rootReply p)
+
+-- the root alone, +0 where there is none
+abbrev pub rootIn : Reply Float → Float
+rootIn (given d) = d
+rootIn (refused n) = nought
 
 -- the `left` columns from column j on, behind those before it
 unfoldable pub columnsFrom : ℕ → ℕ → Matrix → ℕ → Matrix → Reply Matrix

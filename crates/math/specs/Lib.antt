@@ -2,4 +2,3 @@ pub mod Refusing
 pub mod Checks
 pub mod Cholesky
 pub mod Linalg
-pub mod Models

@@ -1,10 +1,10 @@
 -- What the functions of `linalg` answer, in 01's numbers.
 use Prim.Native.Nat.{ℕ}
-use mathlib.Core.Bool.{cond}
+use mathlib.Core.Bool.{Bool, true, false, cond}
 use mathlib.Core.List.{List, [], _∷_}
 use lib.Ieee.{Float, lt}
 use lib.Ieee.Scale.{finite}
-use Rattle.number.specs.Reply.{Reply, refused, given}
+use Rattle.number.specs.Reply.{Reply, refused, given, refuseUnless, andThen}
 use Rattle.matrix.specs.Matrix.{Vector, Matrix, nought, dot}
 use Rattle.math.specs.declared.linalg.Validity.{Validity}
 use Rattle.math.specs.declared.linalg.Validity.the-variants as validity
@@ -18,19 +18,30 @@ use Rattle.math.specs.declared.linalg.Factor2.{Factor2}
 use Rattle.math.specs.declared.linalg.Factor2.the-variants as factor2
 use Rattle.math.specs.declared.linalg.Factor3.{Factor3}
 use Rattle.math.specs.declared.linalg.Factor3.the-variants as factor3
-use Rattle.math.specs.Refusing.{refuseUnless, andThen, numberOf}
+use Rattle.math.specs.Refusing.{numberOf}
 use Rattle.math.specs.Checks.{finiteVector, finiteMatrix, isSymmetric}
 use Rattle.math.specs.Cholesky.{cholesky, solved}
 
 -- ---- definitions
 
+-- whether there is a value
+abbrev pub whetherGiven : {A : Type 0} → Reply A → Reply (Unit {0})
+whetherGiven r = andThen r (λ a. given tt)
+
 -- whether a matrix has a factor
 unfoldable pub factorable : ℕ → Matrix → Reply (Unit {0})
-factorable n a = andThen (cholesky n a) (λ l. given tt)
+factorable n a = whetherGiven (cholesky n a)
+
+-- a reply, where the entries may be a covariance's
+unfoldable pub entriesChecked : {A : Type 0} → ℕ → Matrix → Reply A → Reply A
+entriesChecked n a reply = refuseUnless (finiteMatrix n n a) 5 (refuseUnless (isSymmetric n a) 6 reply)
+
+abbrev pub entriesReply : ℕ → Matrix → Reply (Unit {0})
+entriesReply n a = entriesChecked n a (given tt)
 
 -- 01, Filter: "Covariance checks run finite, symmetric, Cholesky."
 unfoldable pub validated : ℕ → Matrix → Reply (Unit {0})
-validated n a = refuseUnless (finiteMatrix n n a) 5 (refuseUnless (isSymmetric n a) 6 (factorable n a))
+validated n a = entriesChecked n a (factorable n a)
 
 -- 01, Matrix: "Squared distance that isn't above 0 is given as +0." 01, Batch: "7, 9 not finite".
 unfoldable pub distanceReply : Float → Reply Float
@@ -48,6 +59,11 @@ squaredDistance n u s = andThen (cholesky n s) (λ l. distanceBy n l u)
 abbrev pub replyOfValidity : Validity → Reply (Unit {0})
 replyOfValidity validity.Valid = given tt
 replyOfValidity (validity.Refused e) = refused (numberOf e)
+
+-- whether a factor was found
+abbrev pub replyOfFound : Bool → Reply (Unit {0})
+replyOfFound true = given tt
+replyOfFound false = refused 7
 
 abbrev pub replyOfDistance : Distance → Reply Float
 replyOfDistance (distance.Squared d) = given d

@@ -1,3 +1,2 @@
-// The mathematics of the filter: tests and factors of covariances, and the models of motion and measurement.
+// The mathematics of the filter: tests and factors of covariances, and what is solved with them.
 pub mod linalg;
-pub mod models;

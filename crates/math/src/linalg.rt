@@ -3,8 +3,8 @@ ghost use mathlib.Core.Path.{_≡_};
 ghost use mathlib.Core.List.{List, [], _∷_};
 ghost use Rattle.matrix.specs.Matrix.{nought};
 ghost use Rattle.math.specs.Checks.{finiteVector, finiteMatrix, largestInRow, largest, skewRow, skew, isSymmetric};
-ghost use Rattle.math.specs.Cholesky.{remainder, columnEntry, columnBy, pivotRoot, columnsFrom, cholesky, forward, backward, solved, gainBy};
-ghost use Rattle.math.specs.Linalg.{factorable, validated, distanceReply, distanceBy, squaredDistance, replyOfValidity, replyOfDistance, replyOfPivot, columnsOf2, columnsOf3, replyOfFactor2, replyOfFactor3};
+ghost use Rattle.math.specs.Cholesky.{remainder, columnEntry, columnBy, pivotRoot, rootIn, columnsFrom, cholesky, forward, backward, solved, gainBy};
+ghost use Rattle.math.specs.Linalg.{whetherGiven, factorable, entriesReply, validated, replyOfFound, distanceReply, distanceBy, squaredDistance, replyOfValidity, replyOfDistance, replyOfPivot, columnsOf2, columnsOf3, replyOfFactor2, replyOfFactor3};
 ghost use Prim.Native.Nat.{_<_};
 
 // Why a matrix or a result is refused.
@@ -288,15 +288,27 @@ fn is_symmetric6(a: [[f64; 6]; 6]) -> bool
     largest6(skew6(a)) <= SYMMETRY_ABS_TOL + SYMMETRY_REL_TOL * largest6(a)
 }
 
+// The root of p, where p is greater than 0, else +0: a number by itself is handed back without a store.
+fn root_or_zero(p: f64) -> f64
+    ensures { λ r. ⌜ r ≡ rootIn (pivotRoot p) ⌝ }
+{
+    if p > 0.0 {
+        match square_root::root(p) {
+            square_root::SquareRoot::Value(d) => d,
+            square_root::SquareRoot::Refused => 0.0,
+        }
+    } else {
+        0.0
+    }
+}
+
 // The root of p, where p is greater than 0.
 fn pivot_root(p: f64) -> Pivot
     ensures { λ r. ⌜ replyOfPivot r ≡ pivotRoot p ⌝ }
 {
+    let d = root_or_zero(p);
     if p > 0.0 {
-        match number::root::root(p) {
-            number::root::SquareRoot::Value(d) => Pivot::Root(d),
-            number::root::SquareRoot::Refused => Pivot::Fails,
-        }
+        Pivot::Root(d)
     } else {
         Pivot::Fails
     }
@@ -366,6 +378,49 @@ pub fn cholesky2(a: [[f64; 2]; 2]) -> Factor2
             second2(a, l00, l10)
         }
         Pivot::Fails => Factor2::Fails,
+    }
+}
+
+// Whether the factor of a goes on behind its first column. The last root is not needed for it.
+fn goes_on2(a: [[f64; 2]; 2], l00: f64, l10: f64) -> bool
+    ensures { λ r. ⌜ replyOfFound r ≡ whetherGiven (columnsFrom 1 2 a 1 ((l00 ∷ l10 ∷ []) ∷ [])) ⌝ }
+{
+    a[1][1] - l10 * l10 > 0.0
+}
+
+fn goes_on3(a: [[f64; 3]; 3], m00: f64, m10: f64, m20: f64) -> bool
+    ensures { λ r. ⌜ replyOfFound r ≡ whetherGiven (columnsFrom 2 3 a 1 ((m00 ∷ m10 ∷ m20 ∷ []) ∷ [])) ⌝ }
+{
+    let p = a[1][1] - m10 * m10;
+    let m11 = root_or_zero(p);
+    if p > 0.0 {
+        let m21 = (a[2][1] - m20 * m10) / m11;
+        a[2][2] - m20 * m20 - m21 * m21 > 0.0
+    } else {
+        false
+    }
+}
+
+// Whether a has a factor.
+fn has_factor2(a: [[f64; 2]; 2]) -> bool
+    ensures { λ r. ⌜ replyOfFound r ≡ factorable 2 a ⌝ }
+{
+    match pivot_root(a[0][0]) {
+        Pivot::Root(l00) => goes_on2(a, l00, a[1][0] / l00),
+        Pivot::Fails => false,
+    }
+}
+
+fn has_factor3(a: [[f64; 3]; 3]) -> bool
+    ensures { λ r. ⌜ replyOfFound r ≡ factorable 3 a ⌝ }
+{
+    match pivot_root(a[0][0]) {
+        Pivot::Root(l00) => {
+            let l10 = a[1][0] / l00;
+            let l20 = a[2][0] / l00;
+            goes_on3(a, l00, l10, l20)
+        }
+        Pivot::Fails => false,
     }
 }
 
@@ -485,16 +540,13 @@ pub fn squared_mahalanobis3(u: [f64; 3], s: [[f64; 3]; 3]) -> Distance
     }
 }
 
-// Whether a may be a covariance: finite, symmetric, with a factor, in this order.
-pub fn validate_covariance2(a: [[f64; 2]; 2]) -> Validity
-    ensures { λ r. ⌜ replyOfValidity r ≡ validated 2 a ⌝ }
+// Whether the entries of a may be a covariance's: finite, then symmetric.
+fn check_entries2(a: [[f64; 2]; 2]) -> Validity
+    ensures { λ r. ⌜ replyOfValidity r ≡ entriesReply 2 a ⌝ }
 {
     if is_finite_2x2(a) {
         if is_symmetric2(a) {
-            match cholesky2(a) {
-                Factor2::Lower(_) => Validity::Valid,
-                Factor2::Fails => Validity::Refused(Refusal::NotPositiveDefinite),
-            }
+            Validity::Valid
         } else {
             Validity::Refused(Refusal::NotSymmetric)
         }
@@ -503,20 +555,48 @@ pub fn validate_covariance2(a: [[f64; 2]; 2]) -> Validity
     }
 }
 
-pub fn validate_covariance3(a: [[f64; 3]; 3]) -> Validity
-    ensures { λ r. ⌜ replyOfValidity r ≡ validated 3 a ⌝ }
+fn check_entries3(a: [[f64; 3]; 3]) -> Validity
+    ensures { λ r. ⌜ replyOfValidity r ≡ entriesReply 3 a ⌝ }
 {
     if is_finite_3x3(a) {
         if is_symmetric3(a) {
-            match cholesky3(a) {
-                Factor3::Lower(_) => Validity::Valid,
-                Factor3::Fails => Validity::Refused(Refusal::NotPositiveDefinite),
-            }
+            Validity::Valid
         } else {
             Validity::Refused(Refusal::NotSymmetric)
         }
     } else {
         Validity::Refused(Refusal::NonFiniteValue)
+    }
+}
+
+// Whether a may be a covariance: finite, symmetric, with a factor, in this order.
+pub fn validate_covariance2(a: [[f64; 2]; 2]) -> Validity
+    ensures { λ r. ⌜ replyOfValidity r ≡ validated 2 a ⌝ }
+{
+    match check_entries2(a) {
+        Validity::Valid => {
+            if has_factor2(a) {
+                Validity::Valid
+            } else {
+                Validity::Refused(Refusal::NotPositiveDefinite)
+            }
+        }
+        Validity::Refused(why) => Validity::Refused(why),
+    }
+}
+
+pub fn validate_covariance3(a: [[f64; 3]; 3]) -> Validity
+    ensures { λ r. ⌜ replyOfValidity r ≡ validated 3 a ⌝ }
+{
+    match check_entries3(a) {
+        Validity::Valid => {
+            if has_factor3(a) {
+                Validity::Valid
+            } else {
+                Validity::Refused(Refusal::NotPositiveDefinite)
+            }
+        }
+        Validity::Refused(why) => Validity::Refused(why),
     }
 }
 
@@ -583,16 +663,25 @@ fn check_factor6(a: [[f64; 6]; 6]) -> Validity
     Validity::Valid
 }
 
-pub fn validate_covariance6(a: [[f64; 6]; 6]) -> Validity
-    ensures { λ r. ⌜ replyOfValidity r ≡ validated 6 a ⌝ }
+fn check_entries6(a: [[f64; 6]; 6]) -> Validity
+    ensures { λ r. ⌜ replyOfValidity r ≡ entriesReply 6 a ⌝ }
 {
     if is_finite_6x6(a) {
         if is_symmetric6(a) {
-            check_factor6(a)
+            Validity::Valid
         } else {
             Validity::Refused(Refusal::NotSymmetric)
         }
     } else {
         Validity::Refused(Refusal::NonFiniteValue)
+    }
+}
+
+pub fn validate_covariance6(a: [[f64; 6]; 6]) -> Validity
+    ensures { λ r. ⌜ replyOfValidity r ≡ validated 6 a ⌝ }
+{
+    match check_entries6(a) {
+        Validity::Valid => check_factor6(a),
+        Validity::Refused(why) => Validity::Refused(why),
     }
 }

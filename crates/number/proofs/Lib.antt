@@ -1,3 +1,4 @@
 pub mod Signed
 pub mod Durations
 pub mod Zeros
+pub mod Replies

@@ -8,6 +8,10 @@ absoluteOf nan = nan
 absoluteOf (inf s) = inf false
 absoluteOf (fin s m e) = fin false m e
 
+-- the larger of two; the first on a tie, and where the second is a NaN
+abbrev pub largerOf : Float → Float → Float
+largerOf a b = cond (lt a b) b a
+
 -- 01, Prior: "Confidence is clamped to 0..1", as the Rust does it: -0 is not below 0 and stays, and so does a NaN.
 abbrev pub clampOf : Float → Float
 clampOf x = cond (lt x (ofBits binary64 0)) (ofBits binary64 0) (cond (lt (ofBits binary64 0x3ff0_0000_0000_0000) x) (ofBits binary64 0x3ff0_0000_0000_0000) x)

@@ -1,9 +1,7 @@
 // Tests and choices on binary64 numbers.
 ghost use mathlib.Core.Path.{_≡_};
-ghost use mathlib.Core.Bool.{cond};
-ghost use lib.Ieee.{lt};
 ghost use lib.Ieee.Scale.{finite};
-ghost use Rattle.number.specs.Float.{absoluteOf, clampOf};
+ghost use Rattle.number.specs.Float.{absoluteOf, largerOf, clampOf};
 
 // Whether x is neither a NaN nor an infinity.
 pub fn is_finite(x: f64) -> bool
@@ -28,7 +26,7 @@ pub fn absolute(x: f64) -> f64
 
 // The larger of two numbers.
 pub fn larger(a: f64, b: f64) -> f64
-    ensures { λ r. ⌜ r ≡ cond (lt a b) b a ⌝ }
+    ensures { λ r. ⌜ r ≡ largerOf a b ⌝ }
 {
     if a < b { b } else { a }
 }

@@ -8,7 +8,7 @@ use native.Mathlib.Omega.{arith}
 use borrow.Author.Tests.{lt-ltb, le-ltb}
 use lib.ListN.{length}
 use lib.Ieee.{Float}
-use Rattle.number.specs.Reply.{Reply, refused, given}
+use Rattle.number.specs.Reply.{Reply, refused, given, codeOf}
 use Rattle.kuhn_munkres.specs.Assignment.{Pairs, bind, pairsOf, pairsFrom, orElse, takersReply, assignmentReply}
 use Rattle.least.specs.Least.{LeastOnWholes}
 use Rattle.least.proofs.Answer.{assignment-least}
@@ -19,7 +19,6 @@ use Rattle.assignment.specs.declared.Assigned.{Assigned}
 use Rattle.assignment.specs.declared.Outcome.{Outcome}
 use Rattle.assignment.specs.declared.Outcome.the-variants.{Given}
 use Rattle.assignment.proofs.Answers.{few, told}
-use Rattle.pikowhanu.specs.Boundary.{codeOf}
 use Rattle.pikowhanu.specs.Mates.{matesReply, matesAfter, AssignmentCall, PairsHeld, MatesWritten}
 use Rattle.pikowhanu.proofs.Walks.{few-pairs}
 

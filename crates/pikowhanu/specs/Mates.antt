@@ -7,12 +7,11 @@ use Prim.Native.Nat.{ℕ, zero, suc, _≤_}
 use lib.ListN.{length, getD}
 use lib.Dec.{eqb, ltb}
 use lib.Ieee.{Float}
-use Rattle.number.specs.Reply.{Reply, refused, given}
+use Rattle.number.specs.Reply.{Reply, refused, given, codeOf}
 use Rattle.lists.specs.Lay.{lay}
 use Rattle.kuhn_munkres.specs.Assignment.{Pair, Pairs, pairsFrom, orElse, assignmentReply}
 use Rattle.least.specs.Least.{LeastOnWholes}
 use Rattle.assignment.specs.Listing.{padded, rowOf, columnIn}
-use Rattle.pikowhanu.specs.Boundary.{codeOf}
 
 -- 2⁶⁴ − 1, for a row that is left alone
 abbrev pub alone : ℕ

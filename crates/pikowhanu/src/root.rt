@@ -6,11 +6,11 @@ ghost use Rattle.pikowhanu.specs.Boundary.{RootCall};
 pub extern "C" fn pk_root(x: f64, out: &mut f64) -> u32
     ensures { λ r. ⌜ RootCall x r (now (out .entry)) (now (out .exit)) ⌝ }
 {
-    match number::root::root(x) {
-        number::root::SquareRoot::Value(v) => {
+    match square_root::root(x) {
+        square_root::SquareRoot::Value(v) => {
             *out = v;
             0
         }
-        number::root::SquareRoot::Refused => 9,
+        square_root::SquareRoot::Refused => 9,
     }
 }

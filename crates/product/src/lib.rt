@@ -275,20 +275,6 @@ fn mul_6x2_2x2(a: [[f64; 2]; 6], b: [[f64; 2]; 2]) -> [[f64; 2]; 6]
 }
 
 // The row x times the transpose of b: x times each row of b.
-fn row_times_transposed_6x6(x: [f64; 6], b: [[f64; 6]; 6]) -> [f64; 6]
-    ensures { λ r. ⌜ r ≡ rowTimes 6 6 x (transposed 6 6 b) ⌝ }
-{
-    [
-        dot6(x, b[0]),
-        dot6(x, b[1]),
-        dot6(x, b[2]),
-        dot6(x, b[3]),
-        dot6(x, b[4]),
-        dot6(x, b[5]),
-    ]
-}
-
-// The row x times the transpose of b: x times each row of b.
 fn row_times_transposed_3x6(x: [f64; 6], b: [[f64; 6]; 3]) -> [f64; 3]
     ensures { λ r. ⌜ r ≡ rowTimes 6 3 x (transposed 3 6 b) ⌝ }
 {
@@ -330,17 +316,32 @@ fn row_times_transposed_6x2(x: [f64; 2], b: [[f64; 2]; 6]) -> [f64; 6]
     ]
 }
 
-// a times the transpose of b.
+// The transpose of a.
+fn transposed6(a: [[f64; 6]; 6]) -> [[f64; 6]; 6]
+    ensures { λ r. ⌜ r ≡ transposed 6 6 a ⌝ }
+{
+    [
+        [a[0][0], a[1][0], a[2][0], a[3][0], a[4][0], a[5][0]],
+        [a[0][1], a[1][1], a[2][1], a[3][1], a[4][1], a[5][1]],
+        [a[0][2], a[1][2], a[2][2], a[3][2], a[4][2], a[5][2]],
+        [a[0][3], a[1][3], a[2][3], a[3][3], a[4][3], a[5][3]],
+        [a[0][4], a[1][4], a[2][4], a[3][4], a[4][4], a[5][4]],
+        [a[0][5], a[1][5], a[2][5], a[3][5], a[4][5], a[5][5]],
+    ]
+}
+
+// a times the transpose of b, which is laid out first, so that two columns are done at a time.
 fn mul_6x6_transposed_6x6(a: [[f64; 6]; 6], b: [[f64; 6]; 6]) -> [[f64; 6]; 6]
     ensures { λ r. ⌜ r ≡ product 6 6 6 a (transposed 6 6 b) ⌝ }
 {
+    let t = transposed6(b);
     [
-        row_times_transposed_6x6(a[0], b),
-        row_times_transposed_6x6(a[1], b),
-        row_times_transposed_6x6(a[2], b),
-        row_times_transposed_6x6(a[3], b),
-        row_times_transposed_6x6(a[4], b),
-        row_times_transposed_6x6(a[5], b),
+        row_times_6x6(a[0], t),
+        row_times_6x6(a[1], t),
+        row_times_6x6(a[2], t),
+        row_times_6x6(a[3], t),
+        row_times_6x6(a[4], t),
+        row_times_6x6(a[5], t),
     ]
 }
 

@@ -1,9 +1,9 @@
 // Roots of numbers given by their bits.
-use number::root::SquareRoot;
+use square_root::SquareRoot;
 
 // The bits of the root of the number with the bits b, or the refusal's number.
 fn answer(b: u64) -> u64 {
-    match number::root::root(super::floats::number_of(b)) {
+    match square_root::root(super::floats::number_of(b)) {
         SquareRoot::Value(v) => super::floats::bits_of(v),
         SquareRoot::Refused => 9,
     }

@@ -5,12 +5,11 @@ use mathlib.Core.Bool.{cond}
 use mathlib.Core.List.{List, [], _∷_}
 use lib.Dec.{eqb}
 use lib.Ieee.{Float, binary64, ofBits}
-use Rattle.number.specs.Reply.{Reply, given}
+use Rattle.number.specs.Reply.{Reply, given, andThen}
 use Rattle.matrix.specs.Matrix.{Vector, item, entry, tabulate, nought, one, product, transposed}
 use Rattle.matrix.specs.Flat.{rowsOf}
-use Rattle.math.specs.Refusing.{andThen}
 use Rattle.math.specs.Cholesky.{cholesky, gainBy}
-use Rattle.math.specs.Models.{selection}
+use Rattle.models.specs.Models.{selection}
 use Rattle.filter.specs.declared.KalmanFilter.{KalmanFilter}
 use Rattle.filter.specs.Kalman.{spread}
 use Rattle.filter.specs.Filter.{filterWith, squaredMahalanobis, updatedByPosition, predicted}

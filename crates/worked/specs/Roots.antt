@@ -2,7 +2,7 @@
 use mathlib.Core.List.{List, [], _∷_}
 use lib.Ieee.{binary64, ofBits}
 use Rattle.number.specs.Reply.{given}
-use Rattle.number.specs.Root.{rootReply}
+use Rattle.square_root.specs.Root.{rootReply}
 use Rattle.worked.specs.Case.{Case, case}
 
 abbrev pub rootCases : List Case

@@ -2,3 +2,5 @@
 
 #[cfg(feature = "pikowhanu")]
 pub mod pikowhanu;
+#[cfg(feature = "probe")]
+pub mod probe;

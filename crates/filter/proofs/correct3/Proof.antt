@@ -1,7 +1,7 @@
 use mathlib.Core.Path.{_≡_}
 use borrow.Author.Needs.{needs}
 use Rattle.matrix.specs.Matrix.{timesVector, product, congruence, plusVector, plus, minus, symmetrized, identity}
-use Rattle.math.specs.Models.{selection}
+use Rattle.models.specs.Models.{selection}
 use Rattle.filter.specs.Kalman.{estimate, finished, corrected}
 use Rattle.filter.specs.Filter.{stored}
 use Rattle.filter.proofs.Steps.{answers}

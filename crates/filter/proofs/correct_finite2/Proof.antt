@@ -1,6 +1,6 @@
 use mathlib.Core.Path.{sym, ap, _∙_}
 use borrow.Author.Needs.{needs}
-use Rattle.math.specs.Models.{selection}
+use Rattle.models.specs.Models.{selection}
 use Rattle.filter.specs.Kalman.{estimate, finished, corrected}
 use Rattle.filter.specs.Filter.{stored}
 use Rattle.filter.proofs.Steps.{answers, stored-refused, finite-gain, infinite-gain}

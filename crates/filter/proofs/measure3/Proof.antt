@@ -1,48 +1,20 @@
 use mathlib.Core.Path.{_≡_, sym, ap, _∙_}
-use borrow.Author.Needs.{needs}
-use Rattle.matrix.specs.Matrix.{product, transposed}
-use Rattle.matrix.specs.Flat.{rowsOf}
-use Rattle.math.specs.Cholesky.{gainBy}
-use Rattle.math.specs.Linalg.{columnsOf3, replyOfFactor3}
-use Rattle.math.specs.Models.{selection}
-use Rattle.filter.specs.Kalman.{estimate, gained}
+use Rattle.math.specs.Linalg.{replyOfFactor3}
+use Rattle.models.specs.Models.{selection}
 use Rattle.filter.specs.Filter.{estimateOf, stored}
-use Rattle.filter.proofs.Steps.{answers, stored-refused, has-gain, no-gain}
+use Rattle.filter.proofs.Steps.{answers, by-factor}
+use borrow.Author.Needs.{needs}
 use Rattle.filter.proofs.measure3.Statement.{statement}
 use Rattle.filter.proofs.measure3.Tie as tie
 
 returns : tie.Need-returns
 returns c =
-    let rows = c .before .before .before .before in
-    let found = rows .before .before .before in
-    let factor = found .before .before in
-    let s = factor .before .args in
-    let p : rows .rows-6x6 .result ≡ rowsOf 6 6 (s .f .covariance) = rows .rows-6x6 .ensures in
-    let l = columnsOf3 (found .l .given .0 .0) in
-    let k : c .before .gain3 .result ≡ gainBy 3 6 l (product 6 6 3 (rowsOf 6 6 (s .f .covariance)) (transposed 3 6 (selection 3 6 0))) = cc in
-    answers (c .correct-finite3 .ensures)
-    ((λ i. stored (gained 3 6 (s .u) (selection 3 6 0) (s .noise) (estimate (s .f .state) (p i)) (k i)))
-    ∙ ap stored (has-gain 3 6 (s .u) (selection 3 6 0) (s .noise) (estimateOf (s .f)) (s .s) l (ap replyOfFactor3 (sym (found .l .given .1)) ∙ factor .cholesky3 .ensures)))
-
-returns-2 : tie.Need-returns-2
-returns-2 c =
-    let told = c .before in
-    let factor = told .before .before in
-    let s = factor .before .args in
-    answers (c .refuse .ensures) (stored-refused 7 ∙ ap stored (no-gain 3 6 (s .u) (selection 3 6 0) (s .noise) (estimateOf (s .f)) (s .s) (ap replyOfFactor3 (sym (told .enum-told .given .1)) ∙ factor .cholesky3 .ensures)))
+    let at = c .before in
+    let s = at .before .args in
+    answers (c .measure-by3 .ensures) (ap stored (by-factor 3 6 (s .u) (selection 3 6 0) (s .noise) (estimateOf (s .f)) (s .s) (replyOfFactor3 (at .cholesky3 .result)) (at .cholesky3 .ensures)))
 
 pub measure3-spec : {M : Type 1} → statement M
-measure3-spec =
-    tie.close
-    (tie.spec
-    (λ c κs. search needs)
-    (λ c. search needs)
+measure3-spec = tie.close (tie.spec
     (λ c κs. search needs)
     (λ c κs. search needs)
-    (λ c κs. search needs)
-    (λ c κs. search needs)
-    (λ c κs. search needs)
-    (λ c. search needs)
-    (λ c κs. search needs)
-    returns
-    returns-2)
+    returns)

@@ -1,27 +1,30 @@
-use mathlib.Core.Path.{sym, ap, _∙_}
-use borrow.Author.Needs.{needs}
+use mathlib.Core.Path.{_≡_, sym, ap, _∙_}
+use Rattle.matrix.specs.Matrix.{Matrix}
 use Rattle.matrix.specs.Flat.{rowsOf}
-use Rattle.math.specs.Models.{selection}
-use Rattle.math.specs.Linalg.{validated, replyOfValidity}
-use Rattle.filter.specs.declared.Expected.{Expected}
-use Rattle.filter.specs.Kalman.{distanceOf}
-use Rattle.filter.specs.Filter.{estimateOf, distanceFrom, squaredMahalanobis}
-use Rattle.filter.proofs.Steps.{check-refused, check-infinite}
-use Rattle.filter.proofs.Split.{checked-distance}
+use Rattle.models.specs.Models.{selection}
+use Rattle.math.specs.Linalg.{squaredDistance, replyOfValidity}
+use Rattle.filter.specs.Kalman.{checked, distanceOf}
+use Rattle.filter.specs.Filter.{estimateOf, squaredMahalanobis}
+use Rattle.filter.proofs.Steps.{check-passed, check-refused, check-infinite}
+use borrow.Author.Needs.{needs}
 use Rattle.filter.proofs.squared_mahalanobis.Statement.{statement}
 use Rattle.filter.proofs.squared_mahalanobis.Tie as tie
 
 returns : tie.Need-returns
+unfolding squaredMahalanobis distanceOf
 returns c =
-    let expected = c .before in
-    let told = expected .before in
+    let own = c .before in
+    let beyond = own .before in
+    let told = beyond .before in
     let valid = told .before .before in
     let rows = valid .before in
     let test = rows .before .before in
     let s = test .before .args in
-    c .distance-from .ensures ∙ ap (λ (m : Expected). distanceFrom m (s .z) (s .noise)) (expected .expected-position .ensures)
-    ∙ checked-distance (s .f) (s .z) (s .noise) (sym (test .is-finite3 .ensures) ∙ rows .before .if1 .taken)
-    (ap replyOfValidity (sym (told .enum-told .given .1)) ∙ valid .validate-covariance3 .ensures ∙ ap (validated 3) (rows .rows-3x3 .ensures))
+    let r = rows .rows-3x3 .result in
+    c .squared-mahalanobis3 .ensures
+    ∙ (λ i. squaredDistance 3 (beyond .innovation3 .ensures i) (own .spread3 .ensures i))
+    ∙ check-passed 3 (s .z) r (distanceOf 3 6 (s .z) (selection 3 6 0) r (estimateOf (s .f))) (sym (test .is-finite3 .ensures) ∙ rows .before .if1 .taken) (ap replyOfValidity (sym (told .enum-told .given .1)) ∙ valid .validate-covariance3 .ensures)
+    ∙ ap (λ (r : Matrix). checked 3 (s .z) r (distanceOf 3 6 (s .z) (selection 3 6 0) r (estimateOf (s .f)))) (rows .rows-3x3 .ensures)
 
 returns-2 : tie.Need-returns-2
 unfolding squaredMahalanobis
@@ -31,8 +34,9 @@ returns-2 c =
     let rows = valid .before in
     let test = rows .before .before in
     let s = test .before .args in
-    check-refused 3 (s .z) (rowsOf 3 3 (s .noise)) (distanceOf 3 6 (s .z) (selection 3 6 0) (rowsOf 3 3 (s .noise)) (estimateOf (s .f))) (sym (test .is-finite3 .ensures) ∙ rows .before .if1 .taken)
-    (ap replyOfValidity (sym (found .why .given .1)) ∙ valid .validate-covariance3 .ensures ∙ ap (validated 3) (rows .rows-3x3 .ensures))
+    let r = rows .rows-3x3 .result in
+    check-refused 3 (s .z) r (distanceOf 3 6 (s .z) (selection 3 6 0) r (estimateOf (s .f))) (sym (test .is-finite3 .ensures) ∙ rows .before .if1 .taken) (ap replyOfValidity (sym (found .why .given .1)) ∙ valid .validate-covariance3 .ensures)
+    ∙ ap (λ (r : Matrix). checked 3 (s .z) r (distanceOf 3 6 (s .z) (selection 3 6 0) r (estimateOf (s .f)))) (rows .rows-3x3 .ensures)
 
 returns-3 : tie.Need-returns-3
 unfolding squaredMahalanobis
@@ -49,6 +53,7 @@ squared-mahalanobis-spec =
     (λ c κs. search needs)
     (λ c κs. search needs)
     (λ c. search needs)
+    (λ c κs. search needs)
     (λ c κs. search needs)
     (λ c κs. search needs)
     (λ c. search needs)

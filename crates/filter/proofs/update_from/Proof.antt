@@ -2,7 +2,7 @@ use mathlib.Core.Path.{_≡_}
 use borrow.Author.Needs.{needs}
 use Rattle.matrix.specs.Matrix.{Vector, Matrix}
 use Rattle.matrix.specs.Flat.{rowsOf}
-use Rattle.math.specs.Models.{selection}
+use Rattle.models.specs.Models.{selection}
 use Rattle.filter.specs.Kalman.{measuredBy}
 use Rattle.filter.specs.Filter.{estimateOf, stored, innovationFrom, spreadFrom, updatedFrom}
 use Rattle.filter.proofs.Steps.{answers}

@@ -1,46 +1,57 @@
-use mathlib.Core.Path.{sym, ap, _∙_}
+use mathlib.Core.Path.{_≡_, sym, ap, _∙_}
+use Rattle.matrix.specs.Matrix.{Matrix}
+use Rattle.models.specs.Models.{selection}
+use Rattle.math.specs.Linalg.{replyOfFactor3, replyOfValidity}
+use Rattle.filter.specs.Kalman.{measuredBy, measured, updateReply}
+use Rattle.filter.specs.Filter.{estimateOf, stored, updatedByPosition}
+use Rattle.filter.proofs.Steps.{answers, stored-refused, by-factor, check-passed, check-refused, check-infinite}
 use borrow.Author.Needs.{needs}
-use Rattle.matrix.specs.Flat.{rowsOf}
-use Rattle.math.specs.Models.{selection}
-use Rattle.math.specs.Linalg.{validated, replyOfValidity}
-use Rattle.filter.specs.declared.Expected.{Expected}
-use Rattle.filter.specs.Kalman.{measured, updateReply}
-use Rattle.filter.specs.Filter.{estimateOf, stored, updatedFrom, updatedByPosition}
-use Rattle.filter.proofs.Steps.{answers, stored-refused, check-refused, check-infinite}
-use Rattle.filter.proofs.Split.{checked-position}
 use Rattle.filter.proofs.update_position.Statement.{statement}
 use Rattle.filter.proofs.update_position.Tie as tie
 
 returns : tie.Need-returns
+unfolding updatedByPosition updateReply measured
 returns c =
-    let expected = c .before in
-    let told = expected .before in
+    let told = c .before in
     let valid = told .before .before in
-    let rows = valid .before in
-    let test = rows .before .before in
-    let s = test .before .args in
-    answers (c .update-from .ensures)
-    (ap (λ (m : Expected). updatedFrom m (s .z) (s .noise) (s .f)) (expected .expected-position .ensures)
-    ∙ checked-position (s .f) (s .z) (s .noise) (sym (test .is-finite3 .ensures) ∙ rows .before .if1 .taken)
-    (ap replyOfValidity (sym (told .enum-told .given .1)) ∙ valid .validate-covariance3 .ensures ∙ ap (validated 3) (rows .rows-3x3 .ensures)))
+    let test = valid .before .before in
+    let factor = test .before in
+    let own = factor .before in
+    let beyond = own .before in
+    let rows = beyond .before in
+    let s = rows .before .args in
+    let r = rows .rows-3x3 .result in
+    answers (c .measure-by3 .ensures)
+    (ap stored (by-factor 3 6 (beyond .innovation3 .result) (selection 3 6 0) r (estimateOf (s .f)) (own .spread3 .result) (replyOfFactor3 (factor .cholesky3 .result)) (factor .cholesky3 .ensures)
+    ∙ (λ i. measuredBy 3 6 (beyond .innovation3 .ensures i) (own .spread3 .ensures i) (selection 3 6 0) r (estimateOf (s .f)))
+    ∙ check-passed 3 (s .z) r (measured 3 6 (s .z) (selection 3 6 0) r (estimateOf (s .f))) (sym (test .is-finite3 .ensures) ∙ valid .before .if1 .taken) (ap replyOfValidity (sym (told .enum-told .given .1)) ∙ valid .validate-covariance3 .ensures))
+    ∙ ap (λ (r : Matrix). stored (updateReply 3 6 (s .z) (selection 3 6 0) r (estimateOf (s .f)))) (rows .rows-3x3 .ensures))
 
 returns-2 : tie.Need-returns-2
 unfolding updatedByPosition updateReply
 returns-2 c =
     let found = c .before .before in
     let valid = found .before .before in
-    let rows = valid .before in
-    let test = rows .before .before in
-    let s = test .before .args in
-    answers (c .refuse .ensures) (stored-refused _ ∙ ap stored (check-refused 3 (s .z) (rowsOf 3 3 (s .noise)) (measured 3 6 (s .z) (selection 3 6 0) (rowsOf 3 3 (s .noise)) (estimateOf (s .f))) (sym (test .is-finite3 .ensures) ∙ rows .before .if1 .taken)
-    (ap replyOfValidity (sym (found .why .given .1)) ∙ valid .validate-covariance3 .ensures ∙ ap (validated 3) (rows .rows-3x3 .ensures))))
+    let test = valid .before .before in
+    let rows = test .before .before .before .before in
+    let s = rows .before .args in
+    let r = rows .rows-3x3 .result in
+    answers (c .refuse .ensures)
+    (stored-refused _
+    ∙ ap stored (check-refused 3 (s .z) r (measured 3 6 (s .z) (selection 3 6 0) r (estimateOf (s .f))) (sym (test .is-finite3 .ensures) ∙ valid .before .if1 .taken) (ap replyOfValidity (sym (found .why .given .1)) ∙ valid .validate-covariance3 .ensures))
+    ∙ ap (λ (r : Matrix). stored (updateReply 3 6 (s .z) (selection 3 6 0) r (estimateOf (s .f)))) (rows .rows-3x3 .ensures))
 
 returns-3 : tie.Need-returns-3
 unfolding updatedByPosition updateReply
 returns-3 c =
     let test = c .before .before in
-    let s = test .before .args in
-    answers (c .refuse2 .ensures) (stored-refused 5 ∙ ap stored (check-infinite 3 (s .z) (rowsOf 3 3 (s .noise)) (measured 3 6 (s .z) (selection 3 6 0) (rowsOf 3 3 (s .noise)) (estimateOf (s .f))) (sym (test .is-finite3 .ensures) ∙ c .before .if1 .left)))
+    let rows = test .before .before .before .before in
+    let s = rows .before .args in
+    let r = rows .rows-3x3 .result in
+    answers (c .refuse2 .ensures)
+    (stored-refused 5
+    ∙ ap stored (check-infinite 3 (s .z) r (measured 3 6 (s .z) (selection 3 6 0) r (estimateOf (s .f))) (sym (test .is-finite3 .ensures) ∙ c .before .if1 .left))
+    ∙ ap (λ (r : Matrix). stored (updateReply 3 6 (s .z) (selection 3 6 0) r (estimateOf (s .f)))) (rows .rows-3x3 .ensures))
 
 pub update-position-spec : {M : Type 1} → statement M
 update-position-spec =
@@ -49,8 +60,10 @@ update-position-spec =
     (λ c κs. search needs)
     (λ c κs. search needs)
     (λ c κs. search needs)
-    (λ c. search needs)
     (λ c κs. search needs)
+    (λ c κs. search needs)
+    (λ c κs. search needs)
+    (λ c. search needs)
     (λ c κs. search needs)
     (λ c. search needs)
     (λ c κs. search needs)

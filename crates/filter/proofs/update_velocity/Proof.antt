@@ -1,26 +1,30 @@
 use mathlib.Core.Path.{_≡_, sym, ap, _∙_}
-use borrow.Author.Needs.{needs}
 use Rattle.matrix.specs.Matrix.{Matrix}
-use Rattle.math.specs.Models.{selection, isotropic}
-use lib.Ieee.{binary64, mul}
-use Rattle.math.specs.Linalg.{replyOfValidity}
-use Rattle.filter.specs.Kalman.{measured, updateReply}
+use Rattle.models.specs.Models.{selection}
+use Rattle.math.specs.Linalg.{replyOfFactor2, replyOfValidity}
+use Rattle.filter.specs.Kalman.{measuredBy, measured, updateReply}
 use Rattle.filter.specs.Filter.{estimateOf, stored, updatedByVelocity}
-use Rattle.filter.proofs.Steps.{answers, stored-refused, check-passed, check-refused, check-infinite}
+use Rattle.filter.proofs.Steps.{answers, stored-refused, by-factor, check-passed, check-refused, check-infinite}
+use borrow.Author.Needs.{needs}
 use Rattle.filter.proofs.update_velocity.Statement.{statement}
 use Rattle.filter.proofs.update_velocity.Tie as tie
 
 returns : tie.Need-returns
-unfolding updatedByVelocity updateReply
+unfolding updatedByVelocity updateReply measured
 returns c =
     let told = c .before in
     let valid = told .before .before in
     let test = valid .before .before in
-    let made = test .before in
+    let factor = test .before in
+    let own = factor .before in
+    let beyond = own .before in
+    let made = beyond .before in
     let s = made .before .args in
     let r = made .velocity-r2 .result in
-    answers (c .measure-velocity .ensures)
-    (ap stored (check-passed 2 (s .v) r (measured 2 6 (s .v) (selection 2 6 3) r (estimateOf (s .f))) (sym (test .is-finite2 .ensures) ∙ valid .before .if1 .taken) (ap replyOfValidity (sym (told .enum-told .given .1)) ∙ valid .validate-covariance2 .ensures))
+    answers (c .measure-by2 .ensures)
+    (ap stored (by-factor 2 6 (beyond .innovation2 .result) (selection 2 6 3) r (estimateOf (s .f)) (own .spread2 .result) (replyOfFactor2 (factor .cholesky2 .result)) (factor .cholesky2 .ensures)
+    ∙ (λ i. measuredBy 2 6 (beyond .innovation2 .ensures i) (own .spread2 .ensures i) (selection 2 6 3) r (estimateOf (s .f)))
+    ∙ check-passed 2 (s .v) r (measured 2 6 (s .v) (selection 2 6 3) r (estimateOf (s .f))) (sym (test .is-finite2 .ensures) ∙ valid .before .if1 .taken) (ap replyOfValidity (sym (told .enum-told .given .1)) ∙ valid .validate-covariance2 .ensures))
     ∙ ap (λ (r : Matrix). stored (updateReply 2 6 (s .v) (selection 2 6 3) r (estimateOf (s .f)))) (made .velocity-r2 .ensures))
 
 returns-2 : tie.Need-returns-2
@@ -29,7 +33,7 @@ returns-2 c =
     let found = c .before .before in
     let valid = found .before .before in
     let test = valid .before .before in
-    let made = test .before in
+    let made = test .before .before .before .before in
     let s = made .before .args in
     let r = made .velocity-r2 .result in
     answers (c .refuse .ensures)
@@ -41,7 +45,7 @@ returns-3 : tie.Need-returns-3
 unfolding updatedByVelocity updateReply
 returns-3 c =
     let test = c .before .before in
-    let made = test .before in
+    let made = test .before .before .before .before in
     let s = made .before .args in
     let r = made .velocity-r2 .result in
     answers (c .refuse2 .ensures)
@@ -53,6 +57,9 @@ pub update-velocity-spec : {M : Type 1} → statement M
 update-velocity-spec =
     tie.close
     (tie.spec
+    (λ c κs. search needs)
+    (λ c κs. search needs)
+    (λ c κs. search needs)
     (λ c κs. search needs)
     (λ c κs. search needs)
     (λ c κs. search needs)

@@ -8,8 +8,4 @@ unfolding congruence
 returns c = cc
 
 pub congruence-6x6-spec : {M : Type 1} → statement M
-congruence-6x6-spec =
-    tie.close (tie.spec
-    (λ c κs. search needs)
-    (λ c κs. search needs)
-    returns)
+congruence-6x6-spec = tie.close (tie.spec (λ c κs. search needs) (λ c κs. search needs) returns)

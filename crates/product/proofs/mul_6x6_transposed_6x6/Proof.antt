@@ -11,6 +11,7 @@ pub mul-6x6-transposed-6x6-spec : {M : Type 1} → statement M
 mul-6x6-transposed-6x6-spec =
     tie.close
     (tie.spec
+    (λ c κs. search needs)
     (λ c. search needs)
     (λ c κs. search needs)
     (λ c. search needs)

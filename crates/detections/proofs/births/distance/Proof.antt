@@ -2,7 +2,7 @@ use mathlib.Core.Path.{sym, ap, _∙_}
 use borrow.Author.Needs.{needs}
 use lib.Ieee.{div, ofBits}
 use Rattle.matrix.specs.Matrix.{Vector, dot}
-use Rattle.number.specs.Root.{rootReply, replyOfRoot}
+use Rattle.square_root.specs.Root.{rootReply, replyOfRoot}
 use Rattle.detections.specs.Births.{distanceOf, rootOrNan}
 use Rattle.detections.proofs.births.distance.Statement.{statement}
 use Rattle.detections.proofs.births.distance.Tie as tie

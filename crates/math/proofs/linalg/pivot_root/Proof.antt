@@ -1,22 +1,13 @@
-use mathlib.Core.Path.{sym, ap, _∙_}
 use borrow.Author.Needs.{needs}
-use Rattle.number.specs.Root.{replyOfRoot}
-use Rattle.math.proofs.Factors.{pivot-given, pivot-refused, pivot-low}
+use Rattle.math.proofs.Factors.{pivot-found, pivot-low}
 use Rattle.math.proofs.linalg.pivot_root.Statement.{statement}
 use Rattle.math.proofs.linalg.pivot_root.Tie as tie
 
 returns : tie.Need-returns
-returns c =
-    let at = c .before .before .before in
-    pivot-given _ (at .before .if1 .taken) (ap replyOfRoot (sym (c .before .d .given .1)) ∙ at .root .ensures .is)
+returns c = pivot-found _ (c .if1 .taken) (c .before .root-or-zero .ensures)
 
 returns-2 : tie.Need-returns-2
-returns-2 c =
-    let at = c .before .before in
-    pivot-refused _ (at .before .if1 .taken) (ap replyOfRoot (sym (c .enum-told .given .1)) ∙ at .root .ensures .is)
-
-returns-3 : tie.Need-returns-3
-returns-3 c = pivot-low _ (c .if1 .left)
+returns-2 c = pivot-low _ (c .if1 .left)
 
 pub pivot-root-spec : {M : Type 1} → statement M
-pivot-root-spec = tie.close (tie.spec (λ c κs. search needs) (λ c. search needs) (λ c. search needs) returns returns-2 returns-3)
+pivot-root-spec = tie.close (tie.spec (λ c κs. search needs) returns returns-2)

@@ -1,23 +1,27 @@
-use mathlib.Core.Path.{sym, _∙_}
+use mathlib.Core.Path.{sym, ap, _∙_}
+use Rattle.math.specs.Linalg.{replyOfValidity}
+use Rattle.math.proofs.Answers.{factor-decides, entries-decide}
 use borrow.Author.Needs.{needs}
-use Rattle.math.proofs.Answers.{factor-decides, not-symmetric, not-finite}
 use Rattle.math.proofs.linalg.validate_covariance6.Statement.{statement}
 use Rattle.math.proofs.linalg.validate_covariance6.Tie as tie
 
 returns : tie.Need-returns
 returns c =
-    let s = c .before .before in
-    let f = s .before .before in
-    factor-decides 6 _ (sym (f .is-finite-6x6 .ensures) ∙ s .before .if1 .taken) (sym (s .is-symmetric6 .ensures) ∙ c .before .if2 .taken) (c .check-factor6 .ensures)
+    let told = c .before in
+    factor-decides 6 _ (ap replyOfValidity (sym (told .enum-told .given .1)) ∙ told .before .before .check-entries6 .ensures) (c .check-factor6 .ensures)
 
 returns-2 : tie.Need-returns-2
 returns-2 c =
-    let s = c .before in
-    let f = s .before .before in
-    not-symmetric 6 _ (sym (f .is-finite-6x6 .ensures) ∙ s .before .if1 .taken) (sym (s .is-symmetric6 .ensures) ∙ c .if2 .left)
-
-returns-3 : tie.Need-returns-3
-returns-3 c = not-finite 6 _ (sym (c .before .is-finite-6x6 .ensures) ∙ c .if1 .left)
+    let found = c .before in
+    entries-decide 6 _ (ap replyOfValidity (sym (found .why .given .1)) ∙ found .before .before .check-entries6 .ensures)
 
 pub validate-covariance6-spec : {M : Type 1} → statement M
-validate-covariance6-spec = tie.close (tie.spec (λ c κs. search needs) (λ c κs. search needs) (λ c κs. search needs) returns returns-2 returns-3)
+validate-covariance6-spec =
+    tie.close
+    (tie.spec
+    (λ c κs. search needs)
+    (λ c. search needs)
+    (λ c κs. search needs)
+    (λ c. search needs)
+    returns
+    returns-2)

@@ -2,10 +2,10 @@ use borrow.Author.Needs.{needs}
 use mathlib.Core.Path.{_≡_, sym, ap, _∙_, subst}
 use Prim.Native.Nat.{ℕ}
 use lib.Ieee.{Float}
-use Rattle.number.specs.Reply.{Reply, refused, given}
-use Rattle.number.specs.Root.{NearestRoot, rootReply, replyOfRoot}
-use Rattle.number.proofs.root.Cases.{positive-given}
-use Rattle.pikowhanu.specs.Boundary.{codeOf, leftIn, RootCall}
+use Rattle.number.specs.Reply.{Reply, refused, given, codeOf, leftIn}
+use Rattle.square_root.specs.Root.{NearestRoot, rootReply, replyOfRoot}
+use Rattle.square_root.proofs.Cases.{positive-given}
+use Rattle.pikowhanu.specs.Boundary.{RootCall}
 use Rattle.pikowhanu.proofs.root.pk_root.Statement.{statement}
 use Rattle.pikowhanu.proofs.root.pk_root.Tie as tie
 

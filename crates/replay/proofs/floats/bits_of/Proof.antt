@@ -1,5 +1,5 @@
 use borrow.Author.Needs.{needs}
-use Rattle.number.proofs.root.Patterns.{eq-no-nan}
+use Rattle.square_root.proofs.Patterns.{eq-no-nan}
 use Rattle.replay.proofs.floats.bits_of.Statement.{statement}
 use Rattle.replay.proofs.floats.bits_of.Tie as tie
 

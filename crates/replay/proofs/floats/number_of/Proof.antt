@@ -1,6 +1,6 @@
 use borrow.Author.Needs.{needs}
 use native.Mathlib.Omega.{arith}
-use Rattle.number.proofs.root.Patterns.{no-nan-bits}
+use Rattle.square_root.proofs.Patterns.{no-nan-bits}
 use Rattle.replay.proofs.floats.number_of.Statement.{statement}
 use Rattle.replay.proofs.floats.number_of.Tie as tie
 
