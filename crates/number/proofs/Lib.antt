@@ -1,4 +1,3 @@
 pub mod Signed
 pub mod Durations
 pub mod Zeros
-pub mod Replies

@@ -3,6 +3,7 @@
 use std::hint::black_box;
 
 use factor_tracker_core::filter::KalmanFilter;
+use factor_tracker_core::judge::filter::{matrix, vector};
 use factor_tracker_core::math::models::{cv_f6, cv_q6, measurement_h3};
 use inputs::Random;
 use nalgebra::{Matrix2, SMatrix, SVector};
@@ -51,20 +52,6 @@ fn covariance<const N: usize>(random: &mut Random, more: f64) -> Covariance<N> {
         }
     }
     m
-}
-
-fn matrix<const R: usize, const C: usize>(rows: [[f64; C]; R]) -> SMatrix<f64, R, C> {
-    let mut m = SMatrix::zeros();
-    for (i, row) in rows.iter().enumerate() {
-        for (j, x) in row.iter().enumerate() {
-            m[(i, j)] = *x;
-        }
-    }
-    m
-}
-
-fn vector<const N: usize>(items: [f64; N]) -> SVector<f64, N> {
-    matrix(items.map(|x| [x]))
 }
 
 fn flat<const N: usize, const M: usize>(rows: Covariance<N>) -> [f64; M] {

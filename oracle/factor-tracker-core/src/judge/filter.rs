@@ -69,7 +69,8 @@ fn number(error: TrackerError) -> u32 {
     refusal::of(&error)
 }
 
-fn matrix<const R: usize, const C: usize>(rows: Rows<R, C>) -> SMatrix<f64, R, C> {
+/// Rows as a matrix of the Rust's.
+pub fn matrix<const R: usize, const C: usize>(rows: Rows<R, C>) -> SMatrix<f64, R, C> {
     let mut m = SMatrix::zeros();
     for (i, row) in rows.iter().enumerate() {
         for (j, x) in row.iter().enumerate() {
@@ -79,7 +80,7 @@ fn matrix<const R: usize, const C: usize>(rows: Rows<R, C>) -> SMatrix<f64, R, C
     m
 }
 
-fn vector<const N: usize>(items: [f64; N]) -> SVector<f64, N> {
+pub fn vector<const N: usize>(items: [f64; N]) -> SVector<f64, N> {
     matrix(items.map(|x| [x]))
 }
 
