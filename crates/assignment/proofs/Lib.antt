@@ -1,3 +1,4 @@
+pub mod Places
 pub mod Forests
 pub mod Unions
 pub mod RowJoins

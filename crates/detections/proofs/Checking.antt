@@ -4,8 +4,9 @@ use mathlib.Core.Bool.{Bool, true, false, _&&_}
 use Prim.Native.Nat.{ℕ}
 use native.Mathlib.Omega.{arith}
 use Rattle.number.specs.Reply.{Reply, refused, given, refuseUnless}
+use Rattle.number.proofs.Zeros.{both}
 use Rattle.matrix.specs.Flat.{rowsOf}
-use Rattle.math.specs.Checks.{finiteVector}
+use Rattle.finite.specs.Finite.{finiteVector}
 use Rattle.math.specs.Linalg.{validated}
 use Rattle.detections.specs.declared.Detection.{Detection}
 use Rattle.detections.specs.Detection.{finiteVelocity, detectionReply}
@@ -14,10 +15,6 @@ use Rattle.detections.specs.Detection.{finiteVelocity, detectionReply}
 past-test : {A : Type 0} {a : A} (b : Bool) (n : ℕ) (r : Reply A) → refuseUnless b n r ≡ given a → (b ≡ true) × (r ≡ given a)
 past-test true n r e = (refl, e)
 past-test false n r e = absurd (let z : _≡_ {A = ℕ} 0 1 = cc in omega arith)
-
-pub both : (a b : Bool) → (a && b) ≡ true → (a ≡ true) × (b ≡ true)
-both true b e = (refl, e)
-both false b e = absurd (let z : _≡_ {A = ℕ} 0 1 = cc in omega arith)
 
 module _ (d : Detection) where
   pub covariance-decides : (finiteVector 3 (d .position) && finiteVelocity (d .velocity)) ≡ true → validated 3 (rowsOf 3 3 (d .covariance)) ≡ detectionReply d

@@ -9,9 +9,9 @@ use Rattle.number.specs.Reply.{given}
 use Rattle.square_root.specs.Root.{rootReply}
 use Rattle.number.proofs.Zeros.{impossible}
 use Rattle.matrix.specs.Matrix.{Vector, item, minusVector}
-use Rattle.math.specs.Checks.{finiteVector}
+use Rattle.finite.specs.Finite.{finiteVector}
 use Rattle.detections.specs.Births.{squaredOffset, rootOrNan, distanceOf}
-use Rattle.detections.proofs.Checking.{both}
+use Rattle.number.proofs.Zeros.{both}
 
 -- a number with no minus before it, zero and infinity among them
 upright : Float → Bool

@@ -3,7 +3,7 @@ use mathlib.Core.Bool.{Bool, true, _&&_}
 use lib.Ieee.Scale.{finite}
 use Rattle.number.specs.Reply.{Reply, refuseUnless}
 use Rattle.matrix.specs.Flat.{rowsOf}
-use Rattle.math.specs.Checks.{finiteVector}
+use Rattle.finite.specs.Finite.{finiteVector}
 use Rattle.math.specs.Linalg.{validated}
 use Rattle.detections.specs.declared.Velocity.{Velocity}
 use Rattle.detections.specs.declared.Velocity.the-variants.{Unmeasured, Measured}

@@ -17,7 +17,7 @@ pub fn is_score_below(score: Score, threshold: f64) -> bool
 pub fn distance(a: [f64; 3], b: [f64; 3]) -> f64
     ensures { λ r. ⌜ r ≡ distanceOf a b ⌝ }
 {
-    let u = matrix::sum::sub3(a, b);
+    let u = sums::sub3(a, b);
     match square_root::root(product::dot3(u, u)) {
         square_root::SquareRoot::Value(x) => x,
         square_root::SquareRoot::Refused => 0.0 / 0.0,

@@ -50,8 +50,8 @@ pub fn validate_detection(d: Detection) -> math::linalg::Validity
     let position = d.position;
     let covariance = d.covariance;
     let velocity = d.velocity;
-    if math::linalg::is_finite3(position) & is_finite_velocity(velocity) {
-        math::linalg::validate_covariance3(matrix::flat::rows_3x3(covariance))
+    if finite::is_finite3(position) & is_finite_velocity(velocity) {
+        math::linalg::validate_covariance3(flat::rows_3x3(covariance))
     } else {
         math::linalg::Validity::Refused(math::linalg::Refusal::NonFiniteValue)
     }

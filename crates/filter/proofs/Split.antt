@@ -5,7 +5,7 @@ use lib.Ieee.{Float, binary64, mul}
 use Rattle.number.specs.Reply.{given}
 use Rattle.matrix.specs.Matrix.{Vector, Matrix, rowTimes, product, congruence, plus, symmetrized}
 use Rattle.matrix.specs.Flat.{rowOf, rowsOf, flatOf}
-use Rattle.math.specs.Checks.{finiteVector}
+use Rattle.finite.specs.Finite.{finiteVector}
 use Rattle.math.specs.Linalg.{validated, squaredDistance}
 use Rattle.models.specs.Models.{selection, isotropic}
 use Rattle.filter.specs.declared.KalmanFilter.{KalmanFilter}

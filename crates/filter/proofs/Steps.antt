@@ -4,8 +4,8 @@ use mathlib.Core.Bool.{true, false}
 use Prim.Native.Nat.{ℕ}
 use Rattle.number.specs.Reply.{Reply, refused, given, andThen, leftIn}
 use Rattle.matrix.specs.Matrix.{Vector, Matrix}
-use Rattle.math.specs.Checks.{finiteVector, finiteMatrix}
-use Rattle.math.specs.Cholesky.{cholesky}
+use Rattle.finite.specs.Finite.{finiteVector, finiteMatrix}
+use Rattle.cholesky.specs.Cholesky.{cholesky}
 use Rattle.math.specs.Linalg.{validated}
 use Rattle.filter.specs.declared.KalmanFilter.{KalmanFilter}
 use Rattle.filter.specs.declared.Outcome.the-variants.{Done}

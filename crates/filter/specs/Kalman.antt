@@ -4,8 +4,9 @@ use Prim.Native.Nat.{ℕ}
 use lib.Ieee.{Float}
 use Rattle.number.specs.Reply.{Reply, refused, given, refuseUnless, andThen}
 use Rattle.matrix.specs.Matrix.{Vector, Matrix, timesVector, product, transposed, congruence, plusVector, minusVector, plus, minus, symmetrized, identity}
-use Rattle.math.specs.Checks.{finiteVector, finiteMatrix}
-use Rattle.math.specs.Cholesky.{cholesky, gainBy}
+use Rattle.finite.specs.Finite.{finiteVector, finiteMatrix}
+use Rattle.cholesky.specs.Cholesky.{cholesky}
+use Rattle.solving.specs.Solving.{gainBy}
 use Rattle.math.specs.Linalg.{validated, squaredDistance}
 
 -- what is held to be true of a state: x, and P as rows

@@ -2,7 +2,8 @@
 ghost use mathlib.Core.Path.{_≡_};
 ghost use Rattle.matrix.specs.Matrix.{congruence};
 ghost use Rattle.matrix.specs.Flat.{rowsOf};
-ghost use Rattle.math.specs.Linalg.{columnsOf2, columnsOf3, replyOfFactor2, replyOfFactor3, replyOfDistance};
+ghost use Rattle.cholesky.specs.Factor.{columnsOf2, columnsOf3, replyOfFactor2, replyOfFactor3};
+ghost use Rattle.math.specs.Linalg.{replyOfDistance};
 ghost use Rattle.models.specs.Models.{selection};
 ghost use Rattle.math.specs.Refusing.{numberOf};
 ghost use Rattle.number.specs.Reply.{refused, andThen};
@@ -47,9 +48,9 @@ fn refuse(f: KalmanFilter, why: math::linalg::Refusal) -> Step
 fn finish(f: KalmanFilter, x: [f64; 6], p: [[f64; 6]; 6]) -> Step
     ensures { λ r. ⌜ Answer f r (stored (finished 6 (estimate x p))) ⌝ }
 {
-    if math::linalg::is_finite6(x) {
-        if math::linalg::is_finite_6x6(p) {
-            let covariance = matrix::flat::flat_6x6(p);
+    if finite::is_finite6(x) {
+        if finite6::is_finite_6x6(p) {
+            let covariance = flat::flat_6x6(p);
             let filter = KalmanFilter {
                 state: x,
                 covariance,
@@ -73,8 +74,8 @@ fn move_by(f: KalmanFilter, phi: [[f64; 6]; 6], q: [[f64; 6]; 6]) -> Step
     let x = f.state;
     let flat = f.covariance;
     let state = product::mul_6x6_vector(phi, x);
-    let spread = product::congruence_6x6(phi, matrix::flat::rows_6x6(flat));
-    let covariance = matrix::sum::symmetrized_sum6(spread, q);
+    let spread = congruence::congruence_6x6(phi, flat::rows_6x6(flat));
+    let covariance = symmetrized::symmetrized_sum6(spread, q);
     finish(f, state, covariance)
 }
 
@@ -83,7 +84,7 @@ pub fn predict(f: KalmanFilter, dt: f64, q: f64) -> Step
     ensures { λ r. ⌜ Answer f r (predicted dt q f) ⌝ }
 {
     let noise = models::cv_q6(dt, q);
-    if math::linalg::is_finite_6x6(noise) {
+    if finite6::is_finite_6x6(noise) {
         move_by(f, models::cv_f6(dt), noise)
     } else {
         refuse(f, math::linalg::Refusal::NonFiniteValue)
@@ -98,8 +99,8 @@ pub fn create(x: [f64; 6], p: [f64; 36]) -> Step
         state: x,
         covariance: p,
     };
-    if math::linalg::is_finite6(x) {
-        match math::linalg::validate_covariance6(matrix::flat::rows_6x6(p)) {
+    if finite::is_finite6(x) {
+        match math::linalg::validate_covariance6(flat::rows_6x6(p)) {
             math::linalg::Validity::Valid => Step {
                 outcome: Outcome::Done,
                 filter,
@@ -122,10 +123,10 @@ fn correct3(
     ensures { λ r. ⌜ Answer f r (stored (finished 6 (corrected 3 6 u (selection 3 6 0) noise (estimate (f .state) p) k))) ⌝ }
 {
     let x = f.state;
-    let state = matrix::sum::add6(x, product::mul_6x3_vector(k, u));
-    let a = matrix::sum::complement6(product::mul_6x3_3x6(k, models::measurement_h3()));
-    let left = product::congruence_6x6(a, p);
-    let covariance = matrix::sum::symmetrized_sum6(left, product::congruence_6x3(k, noise));
+    let state = sums::add6(x, product::mul_6x3_vector(k, u));
+    let a = rest::position_rest(k);
+    let left = congruence::congruence_6x6(a, p);
+    let covariance = symmetrized::symmetrized_sum6(left, gain_congruence::congruence_6x3(k, noise));
     finish(f, state, covariance)
 }
 
@@ -139,7 +140,7 @@ fn correct_finite3(
 ) -> Step
     ensures { λ r. ⌜ Answer f r (stored (gained 3 6 u (selection 3 6 0) noise (estimate (f .state) p) k)) ⌝ }
 {
-    if math::linalg::is_finite_6x3(k) {
+    if finite6::is_finite_6x3(k) {
         correct3(f, u, noise, p, k)
     } else {
         refuse(f, math::linalg::Refusal::NonFiniteResult)
@@ -147,20 +148,12 @@ fn correct_finite3(
 }
 
 // The filter after a measurement with the innovation u, by the factor l of its covariance.
-fn measure_with3(
-    f: KalmanFilter,
-    u: [f64; 3],
-    noise: [[f64; 3]; 3],
-    l: math::linalg::Lower3,
-) -> Step
+fn measure_with3(f: KalmanFilter, u: [f64; 3], noise: [[f64; 3]; 3], l: cholesky::Lower3) -> Step
     ensures { λ r. ⌜ Answer f r (stored (measuredWith 3 6 u (selection 3 6 0) noise (estimateOf f) (columnsOf3 l))) ⌝ }
 {
     let flat = f.covariance;
-    let p = matrix::flat::rows_6x6(flat);
-    let k = math::linalg::gain3(
-        l,
-        product::mul_6x6_transposed_3x6(p, models::measurement_h3()),
-    );
+    let p = flat::rows_6x6(flat);
+    let k = solving::gain3(l, observation::position_cross(p));
     correct_finite3(f, u, noise, p, k)
 }
 
@@ -168,14 +161,14 @@ fn measure_with3(
 fn measure_by3(
     f: KalmanFilter,
     u: [f64; 3],
-    factor: math::linalg::Factor3,
+    factor: cholesky::Factor3,
     noise: [[f64; 3]; 3],
 ) -> Step
     ensures { λ r. ⌜ Answer f r (stored (andThen (replyOfFactor3 factor) (λ l. measuredWith 3 6 u (selection 3 6 0) noise (estimateOf f) l))) ⌝ }
 {
     match factor {
-        math::linalg::Factor3::Lower(l) => measure_with3(f, u, noise, l),
-        math::linalg::Factor3::Fails => refuse(f, math::linalg::Refusal::NotPositiveDefinite),
+        cholesky::Factor3::Lower(l) => measure_with3(f, u, noise, l),
+        cholesky::Factor3::Fails => refuse(f, math::linalg::Refusal::NotPositiveDefinite),
     }
 }
 
@@ -183,7 +176,7 @@ fn measure_by3(
 fn measure3(f: KalmanFilter, u: [f64; 3], s: [[f64; 3]; 3], noise: [[f64; 3]; 3]) -> Step
     ensures { λ r. ⌜ Answer f r (stored (measuredBy 3 6 u s (selection 3 6 0) noise (estimateOf f))) ⌝ }
 {
-    measure_by3(f, u, math::linalg::cholesky3(s), noise)
+    measure_by3(f, u, cholesky::cholesky3(s), noise)
 }
 
 // The filter corrected by the gain k: the state by the innovation u, the covariance by the Joseph form.
@@ -197,10 +190,10 @@ fn correct2(
     ensures { λ r. ⌜ Answer f r (stored (finished 6 (corrected 2 6 u (selection 2 6 3) noise (estimate (f .state) p) k))) ⌝ }
 {
     let x = f.state;
-    let state = matrix::sum::add6(x, product::mul_6x2_vector(k, u));
-    let a = matrix::sum::complement6(product::mul_6x2_2x6(k, models::velocity_h2()));
-    let left = product::congruence_6x6(a, p);
-    let covariance = matrix::sum::symmetrized_sum6(left, product::congruence_6x2(k, noise));
+    let state = sums::add6(x, product::mul_6x2_vector(k, u));
+    let a = rest::velocity_rest(k);
+    let left = congruence::congruence_6x6(a, p);
+    let covariance = symmetrized::symmetrized_sum6(left, gain_congruence::congruence_6x2(k, noise));
     finish(f, state, covariance)
 }
 
@@ -214,7 +207,7 @@ fn correct_finite2(
 ) -> Step
     ensures { λ r. ⌜ Answer f r (stored (gained 2 6 u (selection 2 6 3) noise (estimate (f .state) p) k)) ⌝ }
 {
-    if math::linalg::is_finite_6x2(k) {
+    if finite6::is_finite_6x2(k) {
         correct2(f, u, noise, p, k)
     } else {
         refuse(f, math::linalg::Refusal::NonFiniteResult)
@@ -222,17 +215,12 @@ fn correct_finite2(
 }
 
 // The filter after a measurement with the innovation u, by the factor l of its covariance.
-fn measure_with2(
-    f: KalmanFilter,
-    u: [f64; 2],
-    noise: [[f64; 2]; 2],
-    l: math::linalg::Lower2,
-) -> Step
+fn measure_with2(f: KalmanFilter, u: [f64; 2], noise: [[f64; 2]; 2], l: cholesky::Lower2) -> Step
     ensures { λ r. ⌜ Answer f r (stored (measuredWith 2 6 u (selection 2 6 3) noise (estimateOf f) (columnsOf2 l))) ⌝ }
 {
     let flat = f.covariance;
-    let p = matrix::flat::rows_6x6(flat);
-    let k = math::linalg::gain2(l, product::mul_6x6_transposed_2x6(p, models::velocity_h2()));
+    let p = flat::rows_6x6(flat);
+    let k = solving::gain2(l, observation::velocity_cross(p));
     correct_finite2(f, u, noise, p, k)
 }
 
@@ -240,14 +228,14 @@ fn measure_with2(
 fn measure_by2(
     f: KalmanFilter,
     u: [f64; 2],
-    factor: math::linalg::Factor2,
+    factor: cholesky::Factor2,
     noise: [[f64; 2]; 2],
 ) -> Step
     ensures { λ r. ⌜ Answer f r (stored (andThen (replyOfFactor2 factor) (λ l. measuredWith 2 6 u (selection 2 6 3) noise (estimateOf f) l))) ⌝ }
 {
     match factor {
-        math::linalg::Factor2::Lower(l) => measure_with2(f, u, noise, l),
-        math::linalg::Factor2::Fails => refuse(f, math::linalg::Refusal::NotPositiveDefinite),
+        cholesky::Factor2::Lower(l) => measure_with2(f, u, noise, l),
+        cholesky::Factor2::Fails => refuse(f, math::linalg::Refusal::NotPositiveDefinite),
     }
 }
 
@@ -255,7 +243,7 @@ fn measure_by2(
 fn measure2(f: KalmanFilter, u: [f64; 2], s: [[f64; 2]; 2], noise: [[f64; 2]; 2]) -> Step
     ensures { λ r. ⌜ Answer f r (stored (measuredBy 2 6 u s (selection 2 6 3) noise (estimateOf f))) ⌝ }
 {
-    measure_by2(f, u, math::linalg::cholesky2(s), noise)
+    measure_by2(f, u, cholesky::cholesky2(s), noise)
 }
 
 // The covariance of the position that f expects.
@@ -263,7 +251,7 @@ fn position_spread(f: KalmanFilter) -> [[f64; 3]; 3]
     ensures { λ r. ⌜ r ≡ congruence 3 6 (selection 3 6 0) (rowsOf 6 6 (f .covariance)) ⌝ }
 {
     let flat = f.covariance;
-    product::congruence_3x6(models::measurement_h3(), matrix::flat::rows_6x6(flat))
+    observation::position_spread(flat::rows_6x6(flat))
 }
 
 // Where f expects a position: once for a filter, whatever is measured.
@@ -271,8 +259,8 @@ pub fn expected_position(f: KalmanFilter) -> Expected
     ensures { λ r. ⌜ r ≡ expectedOf f ⌝ }
 {
     let x = f.state;
-    let position = product::mul_3x6_vector(models::measurement_h3(), x);
-    let covariance = matrix::flat::flat_3x3(position_spread(f));
+    let position = observation::position(x);
+    let covariance = flat::flat_3x3(position_spread(f));
     Expected {
         position,
         covariance,
@@ -285,11 +273,8 @@ pub fn distance_from(m: Expected, z: [f64; 3], noise: [f64; 9]) -> math::linalg:
 {
     let position = m.position;
     let covariance = m.covariance;
-    let u = matrix::sum::sub3(z, position);
-    let s = matrix::sum::symmetrized_sum3(
-        matrix::flat::rows_3x3(covariance),
-        matrix::flat::rows_3x3(noise),
-    );
+    let u = sums::sub3(z, position);
+    let s = symmetrized::symmetrized_sum3(flat::rows_3x3(covariance), flat::rows_3x3(noise));
     math::linalg::squared_mahalanobis3(u, s)
 }
 
@@ -298,27 +283,28 @@ fn innovation3(f: KalmanFilter, z: [f64; 3]) -> [f64; 3]
     ensures { λ r. ⌜ r ≡ innovation 3 6 z (selection 3 6 0) (f .state) ⌝ }
 {
     let x = f.state;
-    matrix::sum::sub3(z, product::mul_3x6_vector(models::measurement_h3(), x))
+    sums::sub3(z, observation::position(x))
 }
 
 // The covariance of an innovation that is measured with the covariance `noise`.
 fn spread3(f: KalmanFilter, noise: [[f64; 3]; 3]) -> [[f64; 3]; 3]
     ensures { λ r. ⌜ r ≡ spread 3 6 (selection 3 6 0) noise (rowsOf 6 6 (f .covariance)) ⌝ }
 {
-    matrix::sum::symmetrized_sum3(position_spread(f), noise)
+    symmetrized::symmetrized_sum3(position_spread(f), noise)
 }
 
-// The squared distance of a measured position from f.
+// The squared distance of a measured position from f. The innovation's factor and the test of `noise` go side by side, before the checks that have no roots.
 pub fn squared_mahalanobis(f: KalmanFilter, z: [f64; 3], noise: [f64; 9]) -> math::linalg::Distance
     ensures { λ r. ⌜ replyOfDistance r ≡ squaredMahalanobis z noise f ⌝ }
 {
-    if math::linalg::is_finite3(z) {
-        let rows = matrix::flat::rows_3x3(noise);
-        match math::linalg::validate_covariance3(rows) {
-            math::linalg::Validity::Valid => {
-                let u = innovation3(f, z);
-                math::linalg::squared_mahalanobis3(u, spread3(f, rows))
-            }
+    let rows = flat::rows_3x3(noise);
+    let u = innovation3(f, z);
+    let both = factors::factor_and_test(spread3(f, rows), rows);
+    let factor = both.factor;
+    let definite = both.definite;
+    if finite::is_finite3(z) {
+        match math::linalg::validity3(rows, definite) {
+            math::linalg::Validity::Valid => math::linalg::distance_by_factor3(u, factor),
             math::linalg::Validity::Refused(why) => math::linalg::Distance::Refused(why),
         }
     } else {
@@ -332,21 +318,23 @@ pub fn update_from(m: Expected, f: KalmanFilter, z: [f64; 3], noise: [f64; 9]) -
 {
     let position = m.position;
     let covariance = m.covariance;
-    let u = matrix::sum::sub3(z, position);
-    let rows = matrix::flat::rows_3x3(noise);
-    let s = matrix::sum::symmetrized_sum3(matrix::flat::rows_3x3(covariance), rows);
+    let u = sums::sub3(z, position);
+    let rows = flat::rows_3x3(noise);
+    let s = symmetrized::symmetrized_sum3(flat::rows_3x3(covariance), rows);
     measure3(f, u, s, rows)
 }
 
-// The filter after a position z was measured, with the covariance `noise`. The innovation's factor comes before the checks, which are done while its roots are on their way.
+// The filter after a position z was measured, with the covariance `noise`. As for the squared distance, the checks come after the roots.
 pub fn update_position(f: KalmanFilter, z: [f64; 3], noise: [f64; 9]) -> Step
     ensures { λ r. ⌜ Answer f r (updatedByPosition z noise f) ⌝ }
 {
-    let rows = matrix::flat::rows_3x3(noise);
+    let rows = flat::rows_3x3(noise);
     let u = innovation3(f, z);
-    let factor = math::linalg::cholesky3(spread3(f, rows));
-    if math::linalg::is_finite3(z) {
-        match math::linalg::validate_covariance3(rows) {
+    let both = factors::factor_and_test(spread3(f, rows), rows);
+    let factor = both.factor;
+    let definite = both.definite;
+    if finite::is_finite3(z) {
+        match math::linalg::validity3(rows, definite) {
             math::linalg::Validity::Valid => measure_by3(f, u, factor, rows),
             math::linalg::Validity::Refused(why) => refuse(f, why),
         }
@@ -360,7 +348,7 @@ fn innovation2(f: KalmanFilter, z: [f64; 2]) -> [f64; 2]
     ensures { λ r. ⌜ r ≡ innovation 2 6 z (selection 2 6 3) (f .state) ⌝ }
 {
     let x = f.state;
-    matrix::sum::sub2(z, product::mul_2x6_vector(models::velocity_h2(), x))
+    sums::sub2(z, observation::velocity(x))
 }
 
 // The covariance of an innovation that is measured with the covariance `noise`.
@@ -368,9 +356,8 @@ fn spread2(f: KalmanFilter, noise: [[f64; 2]; 2]) -> [[f64; 2]; 2]
     ensures { λ r. ⌜ r ≡ spread 2 6 (selection 2 6 3) noise (rowsOf 6 6 (f .covariance)) ⌝ }
 {
     let flat = f.covariance;
-    let h = models::velocity_h2();
-    let p = matrix::flat::rows_6x6(flat);
-    matrix::sum::symmetrized_sum2(product::congruence_2x6(h, p), noise)
+    let p = flat::rows_6x6(flat);
+    symmetrized::symmetrized_sum2(observation::velocity_spread(p), noise)
 }
 
 // The filter after a measured velocity that is finite, with a deviation whose square may be a variance.
@@ -389,9 +376,9 @@ pub fn update_velocity(f: KalmanFilter, v: [f64; 2], std: f64) -> Step
 {
     let noise = models::velocity_r2(std);
     let u = innovation2(f, v);
-    let factor = math::linalg::cholesky2(spread2(f, noise));
-    if math::linalg::is_finite2(v) {
-        match math::linalg::validate_covariance2(noise) {
+    let factor = cholesky::cholesky2(spread2(f, noise));
+    if finite::is_finite2(v) {
+        match isotropic::validate_isotropic2(std * std) {
             math::linalg::Validity::Valid => measure_by2(f, u, factor, noise),
             math::linalg::Validity::Refused(why) => refuse(f, why),
         }

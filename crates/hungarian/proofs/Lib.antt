@@ -1,3 +1,4 @@
+pub mod Places
 pub mod LoopTurns
 pub mod Mask
 pub mod Entries

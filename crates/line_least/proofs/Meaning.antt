@@ -11,6 +11,7 @@ use lib.ListN.{getD, length, length-append}
 use lib.Ieee.{Float, nan, binary64, ofBits}
 use lib.Ieee.Scale.{finite}
 use Rattle.number.specs.Reply.{Reply, refused, given}
+use Rattle.number.proofs.Zeros.{both}
 use Rattle.whole.specs.Integer.{Integer, 0Z, Within, _≈_, _≤Z_}
 use Rattle.whole.specs.Whole.{WholeValue, wholeOf}
 use Rattle.whole.proofs.Values.{is-whole, whole-same}
@@ -33,10 +34,6 @@ passed false n r a e = (refl, e)
 neither : (a b : Bool) → (a || b) ≡ false → (a ≡ false) × (b ≡ false)
 neither true b e = absurd (true≢false e)
 neither false b e = (refl, e)
-
-both : (a b : Bool) → (a && b) ≡ true → (a ≡ true) × (b ≡ true)
-both true b e = (refl, e)
-both false b e = absurd (true≢false (sym e))
 
 not-false : (b : Bool) → not b ≡ false → b ≡ true
 not-false true e = refl

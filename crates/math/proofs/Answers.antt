@@ -6,9 +6,12 @@ use lib.Ieee.{Float, lt}
 use lib.Ieee.Scale.{finite}
 use Rattle.number.specs.Reply.{Reply, refused, given, refuseUnless}
 use Rattle.matrix.specs.Matrix.{Vector, Matrix, nought, dot}
-use Rattle.math.specs.Checks.{finiteVector, finiteMatrix, isSymmetric}
-use Rattle.math.specs.Cholesky.{cholesky, solved}
-use Rattle.math.specs.Linalg.{factorable, entriesChecked, entriesReply, validated, distanceReply, distanceBy, squaredDistance}
+use Rattle.finite.specs.Finite.{finiteVector, finiteMatrix}
+use Rattle.symmetry.specs.Symmetry.{isSymmetric}
+use Rattle.cholesky.specs.Cholesky.{cholesky}
+use Rattle.solving.specs.Solving.{solved}
+use Rattle.definite.specs.Definite.{factorable}
+use Rattle.math.specs.Linalg.{entriesChecked, entriesReply, validated, distanceReply, distanceBy, squaredDistance}
 
 -- ---- a squared distance
 
@@ -46,14 +49,6 @@ module _ (n : ℕ) (u : Vector) (s : Matrix) where
 -- ---- a covariance
 
 module _ (n : ℕ) (a : Matrix) where
-  pub has-factor : {l : Matrix} → given l ≡ cholesky n a → given tt ≡ factorable n a
-  unfolding factorable
-  has-factor e = rw (← e)
-
-  pub no-factor : {m : ℕ} → refused m ≡ cholesky n a → refused m ≡ factorable n a
-  unfolding factorable
-  no-factor e = rw (← e)
-
   pub entries-finite : finiteMatrix n n a ≡ true → isSymmetric n a ≡ true → given tt ≡ entriesReply n a
   unfolding entriesChecked
   entries-finite f s = rw (f, s)

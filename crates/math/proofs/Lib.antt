@@ -1,4 +1,1 @@
-pub mod Factors
-pub mod Columns
-pub mod Solving
 pub mod Answers

@@ -1,4 +1,2 @@
 pub mod Refusing
-pub mod Checks
-pub mod Cholesky
 pub mod Linalg

@@ -1,7 +1,6 @@
 -- What the functions of `linalg` answer, in 01's numbers.
 use Prim.Native.Nat.{ℕ}
-use mathlib.Core.Bool.{Bool, true, false, cond}
-use mathlib.Core.List.{List, [], _∷_}
+use mathlib.Core.Bool.{cond}
 use lib.Ieee.{Float, lt}
 use lib.Ieee.Scale.{finite}
 use Rattle.number.specs.Reply.{Reply, refused, given, refuseUnless, andThen}
@@ -10,27 +9,14 @@ use Rattle.math.specs.declared.linalg.Validity.{Validity}
 use Rattle.math.specs.declared.linalg.Validity.the-variants as validity
 use Rattle.math.specs.declared.linalg.Distance.{Distance}
 use Rattle.math.specs.declared.linalg.Distance.the-variants as distance
-use Rattle.math.specs.declared.linalg.Pivot.{Pivot}
-use Rattle.math.specs.declared.linalg.Pivot.the-variants as pivot
-use Rattle.math.specs.declared.linalg.Lower2.{Lower2}
-use Rattle.math.specs.declared.linalg.Lower3.{Lower3}
-use Rattle.math.specs.declared.linalg.Factor2.{Factor2}
-use Rattle.math.specs.declared.linalg.Factor2.the-variants as factor2
-use Rattle.math.specs.declared.linalg.Factor3.{Factor3}
-use Rattle.math.specs.declared.linalg.Factor3.the-variants as factor3
 use Rattle.math.specs.Refusing.{numberOf}
-use Rattle.math.specs.Checks.{finiteVector, finiteMatrix, isSymmetric}
-use Rattle.math.specs.Cholesky.{cholesky, solved}
+use Rattle.finite.specs.Finite.{finiteVector, finiteMatrix}
+use Rattle.symmetry.specs.Symmetry.{isSymmetric}
+use Rattle.cholesky.specs.Cholesky.{cholesky}
+use Rattle.definite.specs.Definite.{factorable}
+use Rattle.solving.specs.Solving.{solved}
 
 -- ---- definitions
-
--- whether there is a value
-abbrev pub whetherGiven : {A : Type 0} → Reply A → Reply (Unit {0})
-whetherGiven r = andThen r (λ a. given tt)
-
--- whether a matrix has a factor
-unfoldable pub factorable : ℕ → Matrix → Reply (Unit {0})
-factorable n a = whetherGiven (cholesky n a)
 
 -- a reply, where the entries may be a covariance's
 unfoldable pub entriesChecked : {A : Type 0} → ℕ → Matrix → Reply A → Reply A
@@ -60,30 +46,6 @@ abbrev pub replyOfValidity : Validity → Reply (Unit {0})
 replyOfValidity validity.Valid = given tt
 replyOfValidity (validity.Refused e) = refused (numberOf e)
 
--- whether a factor was found
-abbrev pub replyOfFound : Bool → Reply (Unit {0})
-replyOfFound true = given tt
-replyOfFound false = refused 7
-
 abbrev pub replyOfDistance : Distance → Reply Float
 replyOfDistance (distance.Squared d) = given d
 replyOfDistance (distance.Refused e) = refused (numberOf e)
-
-abbrev pub replyOfPivot : Pivot → Reply Float
-replyOfPivot (pivot.Root d) = given d
-replyOfPivot pivot.Fails = refused 7
-
--- the columns of a factor
-abbrev pub columnsOf2 : Lower2 → Matrix
-columnsOf2 l = (l .l00 ∷ l .l10 ∷ []) ∷ (nought ∷ l .l11 ∷ []) ∷ []
-
-abbrev pub columnsOf3 : Lower3 → Matrix
-columnsOf3 l = (l .l00 ∷ l .l10 ∷ l .l20 ∷ []) ∷ (nought ∷ l .l11 ∷ l .l21 ∷ []) ∷ (nought ∷ nought ∷ l .l22 ∷ []) ∷ []
-
-abbrev pub replyOfFactor2 : Factor2 → Reply Matrix
-replyOfFactor2 (factor2.Lower l) = given (columnsOf2 l)
-replyOfFactor2 factor2.Fails = refused 7
-
-abbrev pub replyOfFactor3 : Factor3 → Reply Matrix
-replyOfFactor3 (factor3.Lower l) = given (columnsOf3 l)
-replyOfFactor3 factor3.Fails = refused 7

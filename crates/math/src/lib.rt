@@ -1,2 +1,2 @@
-// The mathematics of the filter: tests and factors of covariances, and what is solved with them.
+// The mathematics of the filter on covariances: their checks, and the squared distance.
 pub mod linalg;

@@ -1,7 +1,7 @@
 -- Matrices of binary64 numbers as lists of rows, of any size, with every operation rounded once and in a fixed order.
 -- 01, Matrix: "A matrix is passed by value as rows of numbers. Each product entry is summed from its first term to its last, every operation rounded once, none fused."
 use Prim.Native.Nat.{ℕ, zero, suc}
-use mathlib.Core.Bool.{cond}
+use mathlib.Core.Bool.{Bool, true, _&&_, cond}
 use mathlib.Core.List.{List, [], _∷_}
 use lib.Dec.{eqb}
 use lib.ListN.{getD}
@@ -47,6 +47,15 @@ sumTo (suc n) f = add binary64 (sumTo n f) (f (suc n))
 abbrev pub sumOf : ℕ → (ℕ → Float) → Float
 sumOf zero f = nought
 sumOf (suc n) f = sumTo n f
+
+-- the sum of all entries of an n by p matrix, column by column
+abbrev pub total : ℕ → ℕ → Matrix → Float
+total n p a = sumOf p (λ j. sumOf n (λ i. entry a i j))
+
+-- f 0, f 1, .. of n tests, all true
+abbrev pub allOf : ℕ → (ℕ → Bool) → Bool
+allOf zero f = true
+allOf (suc n) f = allOf n f && f n
 
 -- the product of two vectors of n items
 abbrev pub dot : ℕ → Vector → Vector → Float

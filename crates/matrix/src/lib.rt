@@ -1,3 +1,1 @@
-// Small matrices by value: sums, symmetric parts, and flat arrays of them. Every number is equal bit for bit to the definition of any size in specs/Matrix.antt.
-pub mod flat;
-pub mod sum;
+// The definitions of matrices by value, of any size: specs/Matrix.antt and specs/Flat.antt. The code that is equal to them is in the crates above.

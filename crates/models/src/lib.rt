@@ -1,7 +1,7 @@
 // Motion at constant velocity, and what is measured of it. A state of six has x, y, z and then their velocities.
 ghost use mathlib.Core.Path.{_≡_};
 ghost use lib.Ieee.{binary64, mul};
-ghost use Rattle.models.specs.Models.{transition, noise, selection, isotropic};
+ghost use Rattle.models.specs.Models.{transition, noise, isotropic};
 
 // The transition over dt seconds.
 pub fn cv_f6(dt: f64) -> [[f64; 6]; 6]
@@ -33,27 +33,6 @@ pub fn cv_q6(dt: f64, q: f64) -> [[f64; 6]; 6]
         [cross, 0.0, 0.0, velocity, 0.0, 0.0],
         [0.0, cross, 0.0, 0.0, velocity, 0.0],
         [0.0, 0.0, cross, 0.0, 0.0, velocity],
-    ]
-}
-
-// The position in a state.
-pub fn measurement_h3() -> [[f64; 6]; 3]
-    ensures { λ r. ⌜ r ≡ selection 3 6 0 ⌝ }
-{
-    [
-        [1.0, 0.0, 0.0, 0.0, 0.0, 0.0],
-        [0.0, 1.0, 0.0, 0.0, 0.0, 0.0],
-        [0.0, 0.0, 1.0, 0.0, 0.0, 0.0],
-    ]
-}
-
-// The velocity along x and y in a state.
-pub fn velocity_h2() -> [[f64; 6]; 2]
-    ensures { λ r. ⌜ r ≡ selection 2 6 3 ⌝ }
-{
-    [
-        [0.0, 0.0, 0.0, 1.0, 0.0, 0.0],
-        [0.0, 0.0, 0.0, 0.0, 1.0, 0.0],
     ]
 }
 

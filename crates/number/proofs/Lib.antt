@@ -1,3 +1,7 @@
 pub mod Signed
 pub mod Durations
 pub mod Zeros
+pub mod Held
+pub mod Finite
+pub mod Equal
+pub mod Plus

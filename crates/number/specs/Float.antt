@@ -1,12 +1,16 @@
 -- Choices on binary64 numbers, as IEEE 754 has the values. Whether a number is finite is `lib.Ieee.Scale.finite`.
 use mathlib.Core.Bool.{false, cond}
-use lib.Ieee.{Float, nan, inf, fin, binary64, lt, ofBits}
+use lib.Ieee.{Float, nan, inf, fin, binary64, lt, eq, ofBits}
 
 -- 01, Matrix: "the largest |m|". The sign goes, a zero's too; a NaN stays one.
 abbrev pub absoluteOf : Float → Float
 absoluteOf nan = nan
 absoluteOf (inf s) = inf false
 absoluteOf (fin s m e) = fin false m e
+
+-- x, and +0 for a zero of either sign
+abbrev pub plainZero : Float → Float
+plainZero x = cond (eq x (ofBits binary64 0)) (ofBits binary64 0) x
 
 -- the larger of two; the first on a tie, and where the second is a NaN
 abbrev pub largerOf : Float → Float → Float

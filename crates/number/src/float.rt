@@ -1,7 +1,7 @@
 // Tests and choices on binary64 numbers.
 ghost use mathlib.Core.Path.{_≡_};
 ghost use lib.Ieee.Scale.{finite};
-ghost use Rattle.number.specs.Float.{absoluteOf, largerOf, clampOf};
+ghost use Rattle.number.specs.Float.{absoluteOf, plainZero, largerOf, clampOf};
 
 // Whether x is neither a NaN nor an infinity.
 pub fn is_finite(x: f64) -> bool
@@ -11,17 +11,19 @@ pub fn is_finite(x: f64) -> bool
     if x < infinity { -infinity < x } else { false }
 }
 
-// x without its sign.
+// x, and +0 for a zero of either sign.
+fn with_plain_zero(x: f64) -> f64
+    ensures { λ r. ⌜ r ≡ plainZero x ⌝ }
+{
+    if x == 0.0 { 0.0 } else { x }
+}
+
+// x without its sign. Two choices one after the other, each between two numbers, compile to no jump.
 pub fn absolute(x: f64) -> f64
     ensures { λ r. ⌜ r ≡ absoluteOf x ⌝ }
 {
-    if 0.0 < x {
-        x
-    } else if x == 0.0 {
-        0.0
-    } else {
-        -x
-    }
+    let y = with_plain_zero(x);
+    if y < 0.0 { -y } else { y }
 }
 
 // The larger of two numbers.

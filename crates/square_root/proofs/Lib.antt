@@ -5,3 +5,4 @@ pub mod Digits
 pub mod Fields
 pub mod Midpoints
 pub mod Cases
+pub mod Above

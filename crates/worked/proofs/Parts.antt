@@ -8,9 +8,12 @@ use Rattle.lifecycle.specs.Lifecycle.{next, settled, agedOf, advancedOf}
 use Rattle.lifecycle.specs.Sensors.{recordedOf}
 use Rattle.matrix.specs.Matrix.{rowTimes, product, timesVector, transposed, congruence, plusVector, minusVector, plus, minus, meanRow, symmetrized, identity}
 use Rattle.matrix.specs.Flat.{rowOf, rowsOf, flatOf}
-use Rattle.math.specs.Checks.{finiteVector, finiteMatrix, largestInRow, largest, skewRow, skew, isSymmetric}
-use Rattle.math.specs.Cholesky.{columnBy, pivotRoot, columnsFrom, cholesky, forward, backward, solved, solvedColumns, gainBy}
-use Rattle.math.specs.Linalg.{factorable, entriesChecked, validated, distanceReply, distanceBy, squaredDistance}
+use Rattle.finite.specs.Finite.{finiteVector, finiteMatrix}
+use Rattle.symmetry.specs.Symmetry.{largestInRow, largest, skewRow, skew, isSymmetric}
+use Rattle.cholesky.specs.Cholesky.{columnBy, pivotRoot, columnsFrom, cholesky}
+use Rattle.solving.specs.Solving.{forward, backward, solved, solvedColumns, gainBy}
+use Rattle.definite.specs.Definite.{factorable}
+use Rattle.math.specs.Linalg.{entriesChecked, validated, distanceReply, distanceBy, squaredDistance}
 use Rattle.models.specs.Models.{transition, noise, selection}
 use Rattle.filter.specs.Kalman.{finished, moved, predictReply, innovation, spread, corrected, gained, measuredWith, measuredBy, measured, checked, updateReply, distanceOf}
 use Rattle.filter.specs.Filter.{stored, predicted, updatedByPosition, squaredMahalanobis}

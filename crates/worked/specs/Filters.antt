@@ -8,7 +8,8 @@ use lib.Ieee.{Float, binary64, ofBits}
 use Rattle.number.specs.Reply.{Reply, given, andThen}
 use Rattle.matrix.specs.Matrix.{Vector, item, entry, tabulate, nought, one, product, transposed}
 use Rattle.matrix.specs.Flat.{rowsOf}
-use Rattle.math.specs.Cholesky.{cholesky, gainBy}
+use Rattle.cholesky.specs.Cholesky.{cholesky}
+use Rattle.solving.specs.Solving.{gainBy}
 use Rattle.models.specs.Models.{selection}
 use Rattle.filter.specs.declared.KalmanFilter.{KalmanFilter}
 use Rattle.filter.specs.Kalman.{spread}

@@ -1,5 +1,5 @@
 use mathlib.Core.Path.{_≡_, sym, ap, _∙_}
-use Rattle.math.specs.Linalg.{replyOfFactor3}
+use Rattle.cholesky.specs.Factor.{replyOfFactor3}
 use Rattle.models.specs.Models.{selection}
 use Rattle.filter.specs.Filter.{estimateOf, stored}
 use Rattle.filter.proofs.Steps.{answers, by-factor}

@@ -1,7 +1,7 @@
 use mathlib.Core.Path.{_≡_, sym, ap, _∙_}
 use Rattle.matrix.specs.Matrix.{Matrix}
 use Rattle.number.specs.Reply.{Reply, andThen}
-use Rattle.math.specs.Linalg.{replyOfFactor3}
+use Rattle.cholesky.specs.Factor.{replyOfFactor3}
 use Rattle.models.specs.Models.{selection}
 use Rattle.filter.specs.Kalman.{measuredWith}
 use Rattle.filter.specs.Filter.{estimateOf, stored}

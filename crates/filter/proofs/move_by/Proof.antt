@@ -1,4 +1,4 @@
-use mathlib.Core.Path.{_≡_}
+use mathlib.Core.Path.{_≡_, _∙_, ap}
 use borrow.Author.Needs.{needs}
 use Rattle.matrix.specs.Matrix.{timesVector, congruence, plus, symmetrized}
 use Rattle.matrix.specs.Flat.{rowsOf}
@@ -11,10 +11,12 @@ use Rattle.filter.proofs.move_by.Tie as tie
 returns : tie.Need-returns
 unfolding moved
 returns c =
-    let s = c .before .before .before .before .before .before .before .args in
+    let own = c .before .before in
+    let state = own .before .before in
+    let s = state .before .before .before .args in
     let p = rowsOf 6 6 (s .f .covariance) in
-    let x : c .before .before .before .before .mul-6x6-vector .result ≡ timesVector 6 6 (s .phi) (s .f .state) = cc in
-    let y : c .before .symmetrized-sum6 .result ≡ symmetrized 6 (plus 6 6 (congruence 6 6 (s .phi) p) (s .q)) = cc in
+    let x : state .mul-6x6-vector .result ≡ timesVector 6 6 (s .phi) (s .f .state) = state .mul-6x6-vector .ensures in
+    let y : c .before .symmetrized-sum6 .result ≡ symmetrized 6 (plus 6 6 (congruence 6 6 (s .phi) p) (s .q)) = c .before .symmetrized-sum6 .ensures ∙ ap (λ m. symmetrized 6 (plus 6 6 m (s .q))) (own .congruence-6x6 .ensures ∙ ap (congruence 6 6 (s .phi)) (own .before .rows-6x6 .ensures)) in
     answers (c .finish .ensures) (λ i. stored (finished 6 (estimate (x i) (y i))))
 
 pub move-by-spec : {M : Type 1} → statement M

@@ -2,7 +2,7 @@ use mathlib.Core.Path.{_≡_, sym, ap, _∙_}
 use borrow.Author.Needs.{needs}
 use Rattle.matrix.specs.Matrix.{Matrix}
 use Rattle.models.specs.Models.{transition, noise}
-use Rattle.math.specs.Checks.{finiteMatrix}
+use Rattle.finite.specs.Finite.{finiteMatrix}
 use Rattle.filter.specs.Kalman.{finished, moved, predictReply}
 use Rattle.filter.specs.Filter.{estimateOf, stored, predicted}
 use Rattle.filter.proofs.Steps.{answers, stored-refused, finite-noise, infinite-noise}

@@ -1,3 +1,5 @@
+use mathlib.Core.Path.{_∙_, ap}
+use Rattle.matrix.specs.Matrix.{symmetrized, plus}
 use Rattle.filter.specs.Kalman.{spread}
 use borrow.Author.Needs.{needs}
 use Rattle.filter.proofs.spread3.Statement.{statement}
@@ -5,7 +7,9 @@ use Rattle.filter.proofs.spread3.Tie as tie
 
 returns : tie.Need-returns
 unfolding spread
-returns c = cc
+returns c =
+    let own = c .before in
+    c .symmetrized-sum3 .ensures ∙ ap (λ m. symmetrized 3 (plus 3 3 m (own .before .args .noise))) (own .position-spread .ensures)
 
 pub spread3-spec : {M : Type 1} → statement M
 spread3-spec =

@@ -1,7 +1,8 @@
 use mathlib.Core.Path.{_≡_, sym, ap, _∙_}
 use Rattle.matrix.specs.Matrix.{Matrix}
 use Rattle.models.specs.Models.{selection}
-use Rattle.math.specs.Linalg.{replyOfFactor2, replyOfValidity}
+use Rattle.cholesky.specs.Factor.{replyOfFactor2}
+use Rattle.math.specs.Linalg.{validated, replyOfValidity}
 use Rattle.filter.specs.Kalman.{measuredBy, measured, updateReply}
 use Rattle.filter.specs.Filter.{estimateOf, stored, updatedByVelocity}
 use Rattle.filter.proofs.Steps.{answers, stored-refused, by-factor, check-passed, check-refused, check-infinite}
@@ -24,7 +25,7 @@ returns c =
     answers (c .measure-by2 .ensures)
     (ap stored (by-factor 2 6 (beyond .innovation2 .result) (selection 2 6 3) r (estimateOf (s .f)) (own .spread2 .result) (replyOfFactor2 (factor .cholesky2 .result)) (factor .cholesky2 .ensures)
     ∙ (λ i. measuredBy 2 6 (beyond .innovation2 .ensures i) (own .spread2 .ensures i) (selection 2 6 3) r (estimateOf (s .f)))
-    ∙ check-passed 2 (s .v) r (measured 2 6 (s .v) (selection 2 6 3) r (estimateOf (s .f))) (sym (test .is-finite2 .ensures) ∙ valid .before .if1 .taken) (ap replyOfValidity (sym (told .enum-told .given .1)) ∙ valid .validate-covariance2 .ensures))
+    ∙ check-passed 2 (s .v) r (measured 2 6 (s .v) (selection 2 6 3) r (estimateOf (s .f))) (sym (test .is-finite2 .ensures) ∙ valid .before .if1 .taken) (ap replyOfValidity (sym (told .enum-told .given .1)) ∙ valid .validate-isotropic2 .ensures ∙ ap (validated 2) (sym (made .velocity-r2 .ensures))))
     ∙ ap (λ (r : Matrix). stored (updateReply 2 6 (s .v) (selection 2 6 3) r (estimateOf (s .f)))) (made .velocity-r2 .ensures))
 
 returns-2 : tie.Need-returns-2
@@ -38,7 +39,7 @@ returns-2 c =
     let r = made .velocity-r2 .result in
     answers (c .refuse .ensures)
     (stored-refused _
-    ∙ ap stored (check-refused 2 (s .v) r (measured 2 6 (s .v) (selection 2 6 3) r (estimateOf (s .f))) (sym (test .is-finite2 .ensures) ∙ valid .before .if1 .taken) (ap replyOfValidity (sym (found .why .given .1)) ∙ valid .validate-covariance2 .ensures))
+    ∙ ap stored (check-refused 2 (s .v) r (measured 2 6 (s .v) (selection 2 6 3) r (estimateOf (s .f))) (sym (test .is-finite2 .ensures) ∙ valid .before .if1 .taken) (ap replyOfValidity (sym (found .why .given .1)) ∙ valid .validate-isotropic2 .ensures ∙ ap (validated 2) (sym (made .velocity-r2 .ensures))))
     ∙ ap (λ (r : Matrix). stored (updateReply 2 6 (s .v) (selection 2 6 3) r (estimateOf (s .f)))) (made .velocity-r2 .ensures))
 
 returns-3 : tie.Need-returns-3

@@ -5,6 +5,7 @@ use Prim.Native.Nat.{ℕ, _+_, _-_, _≤_, _<_}
 use native.Mathlib.Omega.{arith}
 use Rattle.kuhn_munkres.specs.Binary64.{float}
 use Rattle.hungarian.specs.Passes.{two, pots, relaxed, chosen, lowered, paid, Evenly, Pays}
+use Rattle.hungarian.proofs.Places.{small, fits8, after}
 use Rattle.hungarian.proofs.LoopTurns.{relaxed-step, chosen-step, lowered-step, paid-on, paid-off}
 use Rattle.hungarian.specs.Structs.{leastOf}
 use Rattle.hungarian.proofs.relax_even.Statement.{statement}
@@ -19,44 +20,48 @@ abbrev μ-loop : tie.MeasureT-loop
 loop-holds : tie.Need-loop-holds Inv-loop μ-loop
 loop-holds c = (omega arith, omega arith, λ a h s q. q)
 
+-- the column of a turn
+j-in : (c : tie.In-loop Inv-loop μ-loop) → c .before .loop .k + 1 < 129
+j-in c = after (c .before .loop .k) _ (c .loop-test .taken) (c .before .before .pre .1)
+
 add-j : tie.Need-add-j Inv-loop μ-loop
-add-j c = omega arith
+add-j c = small _ (j-in c)
 
 mul-cur : tie.Need-mul-cur Inv-loop μ-loop
-mul-cur c = omega arith
+mul-cur c = fits8 _ (j-in c)
 
 element-copy-out-cur : tie.Need-element-copy-out-cur Inv-loop μ-loop
-element-copy-out-cur c = omega arith
+element-copy-out-cur c = j-in c
 
 mul-old : tie.Need-mul-old Inv-loop μ-loop
-mul-old c = omega arith
+mul-old c = fits8 _ (j-in (c .before))
 
 element-copy-out-old : tie.Need-element-copy-out-old Inv-loop μ-loop
-element-copy-out-old c = omega arith
+element-copy-out-old c = j-in (c .before)
 
 mul-w : tie.Need-mul-w Inv-loop μ-loop
-mul-w c = omega arith
+mul-w c = fits8 _ (j-in (c .before .before))
 
 element-copy-out-w : tie.Need-element-copy-out-w Inv-loop μ-loop
-element-copy-out-w c = omega arith
+element-copy-out-w c = j-in (c .before .before)
 
 lesser-requires : tie.Need-lesser-requires Inv-loop μ-loop
 lesser-requires c κs = search needs
 
 mul-minv : tie.Need-mul-minv Inv-loop μ-loop
-mul-minv c = omega arith
+mul-minv c = fits8 _ (j-in (c .before .before .before .before))
 
 element-write-minv : tie.Need-element-write-minv Inv-loop μ-loop
-element-write-minv c = omega arith
+element-write-minv c = j-in (c .before .before .before .before)
 
 from-requires : tie.Need-from-requires Inv-loop μ-loop
 from-requires c κs = search needs
 
 mul-way : tie.Need-mul-way Inv-loop μ-loop
-mul-way c = omega arith
+mul-way c = fits8 _ (j-in (c .before .before .before .before .before))
 
 element-write-way : tie.Need-element-write-way Inv-loop μ-loop
-element-write-way c = omega arith
+element-write-way c = j-in (c .before .before .before .before .before)
 
 add-k : tie.Need-add-k Inv-loop μ-loop
 add-k c = omega arith

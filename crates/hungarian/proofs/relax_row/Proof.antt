@@ -68,11 +68,11 @@ relax-even-requires-7 c κs = search needs
 
 returns : tie.Need-returns
 unfolding relaxed
-returns c = let st = c .before .before .before .before .before .before .before .before .before .before .before .before .before .before in let q = st .args .q in let i = st .args .i0 in let D = squareFrom (st .args .costs .now) q in let s = two (st .args .minv .now) (st .args .way .now) in let A = entry float D i in let h = c .before .before .before .before .before .before .before .before .before .before .before .before .if1 .taken in let t1 = c .before .before .before .before .before .before .before .before .before .relax-table .ensures A (λ k x y. at-table float D i k h y) s refl in let t2 = c .before .before .before .before .before .before .relax-even .ensures A (λ k x y. at-far float D i k h (omega arith) (λ e. omega arith)) s t1 in let t3 = c .before .before .before .relax-even2 .ensures A (λ k x y. at-own float D i k h (omega arith) (omega arith)) s t2 in c .relax-even3 .ensures A (λ k x y. at-far float D i k h (omega arith) (λ e. omega arith)) s t3
+returns c = let st = c .before .before .before .before .before .before .before .before .before .before .before .before .before .before in let q = st .args .q in let i = st .args .i0 in let D = squareFrom (st .args .costs .now) q in let s = two (st .args .minv .now) (st .args .way .now) in let A = entry float D i in let h = c .before .before .before .before .before .before .before .before .before .before .before .before .if1 .taken in let t1 = c .before .before .before .before .before .before .before .before .before .relax-table .ensures A (λ k x y. at-table float D i k h y) s (refl {a = s}) in let t2 = c .before .before .before .before .before .before .relax-even .ensures A (λ k x y. at-far float D i k h (omega arith) (λ e. omega arith)) s t1 in let t3 = c .before .before .before .relax-even2 .ensures A (λ k x y. at-own float D i k h (omega arith) (omega arith)) s t2 in c .relax-even3 .ensures A (λ k x y. at-far float D i k h (omega arith) (λ e. omega arith)) s t3
 
 returns-2 : tie.Need-returns-2
 unfolding relaxed ofBits ofFields odd
-returns-2 c = let st = c .before .before .before .before .before .before .before .before .before .before .before .before .before .before in let q = st .args .q in let i = st .args .i0 in let D = squareFrom (st .args .costs .now) q in let s = two (st .args .minv .now) (st .args .way .now) in let A = entry float D i in let h = c .before .before .before .before .before .before .before .before .before .before .before .before .if1 .left in let t1 = c .before .before .before .before .before .before .before .before .before .relax-even4 .ensures A (λ k x y. at-off float D i k h (omega arith) (λ e. omega arith)) s refl in let t2 = c .before .before .before .before .before .before .relax-even5 .ensures A (λ k x y. at-col float D i k h (omega arith) (omega arith)) s t1 in let t3 = c .before .before .before .relax-even6 .ensures A (λ k x y. at-off float D i k h y (λ e. omega arith)) s t2 in c .relax-even7 .ensures A (λ k x y. at-zero float D i k h (omega arith)) s t3
+returns-2 c = let st = c .before .before .before .before .before .before .before .before .before .before .before .before .before .before in let q = st .args .q in let i = st .args .i0 in let D = squareFrom (st .args .costs .now) q in let s = two (st .args .minv .now) (st .args .way .now) in let A = entry float D i in let h = c .before .before .before .before .before .before .before .before .before .before .before .before .if1 .left in let t1 = c .before .before .before .before .before .before .before .before .before .relax-even4 .ensures A (λ k x y. at-off float D i k h (omega arith) (λ e. omega arith)) s (refl {a = s}) in let t2 = c .before .before .before .before .before .before .relax-even5 .ensures A (λ k x y. at-col float D i k h (omega arith) (omega arith)) s t1 in let t3 = c .before .before .before .relax-even6 .ensures A (λ k x y. at-off float D i k h y (λ e. omega arith)) s t2 in c .relax-even7 .ensures A (λ k x y. at-zero float D i k h (omega arith)) s t3
 
 pub relax-row-spec : {M : Type 1} → statement M
 relax-row-spec =

@@ -3,6 +3,7 @@ use native.Mathlib.Omega.{arith}
 use mathlib.Core.Path.{_≡_, refl, sym, ap, _∙_, subst}
 use Prim.Native.Nat.{ℕ, _+_, _-_, _*_, _≤_, _<_}
 use lib.ListN.{length}
+use Rattle.assignment.proofs.Places.{turn-in, turn-less, turn-next, turn-room}
 use Rattle.assignment.proofs.Listings.{Freeing, freeing-none, free-room, freeing-skip, freeing-take, freeing-done}
 use Rattle.assignment.proofs.lists.list_columns.Statement.{statement}
 use Rattle.assignment.proofs.lists.list_columns.Tie as tie
@@ -37,4 +38,4 @@ returns c = let l = c .before in let s = l .before in let e : l .loop .j ≡ s .
 pub list-columns-spec : {M : Type 1} → statement M
 list-columns-spec =
     tie.close
-    (tie.spec Inv-loop μ-loop loop-holds (λ c. search needs) (λ c. search needs) (λ c. search needs) (λ c. search needs) loop-again mul-free element-write-free add-n (λ c. search needs) (λ c. search needs) loop-again-2 returns)
+    (tie.spec Inv-loop μ-loop loop-holds (λ c. turn-room _ _ (c .loop-test .taken) (c .before .before .pre .0)) (λ c. turn-in _ _ (c .loop-test .taken) (c .before .before .pre .0)) (λ c. turn-next _ _ (c .before .before .loop-test .taken) (c .before .before .before .before .pre .0)) (λ c. turn-less _ _ (c .before .before .loop-test .taken)) loop-again mul-free element-write-free add-n (λ c. turn-next _ _ (c .before .before .loop-test .taken) (c .before .before .before .before .pre .0)) (λ c. turn-less _ _ (c .before .before .loop-test .taken)) loop-again-2 returns)

@@ -4,6 +4,7 @@ use mathlib.Core.Path.{_≡_, refl, sym, ap, _∙_, subst}
 use Prim.Native.Nat.{ℕ, _+_, _-_, _*_, _≤_, _<_}
 use borrow.Author.Tests.{eq-eqb, ne-eqb}
 use native.Mathlib.Nat.{suc-mul, mul-le-mul-right}
+use Rattle.assignment.proofs.Places.{turn-in, turn-less, turn-next, turn-room}
 use Rattle.assignment.proofs.Picking.{Gathering, gathering-none, gather-room, gather-member, gathering-skip, gathering-take, gathered}
 use Rattle.assignment.proofs.table.gather.Statement.{statement}
 use Rattle.assignment.proofs.table.gather.Tie as tie
@@ -44,4 +45,4 @@ returns c = let l = c .before in let s = l .before .before in let e : l .loop .i
 pub gather-spec : {M : Type 1} → statement M
 gather-spec =
     tie.close
-    (tie.spec Inv-loop μ-loop loop-holds (λ c. search needs) (λ c. search needs) mul-gather-row gather-row-requires mul-members element-write-members add-r (λ c. search needs) (λ c. search needs) loop-again (λ c. search needs) (λ c. search needs) loop-again-2 returns)
+    (tie.spec Inv-loop μ-loop loop-holds (λ c. turn-room _ _ (c .loop-test .taken) (c .before .before .before .pre .0)) (λ c. turn-in _ _ (c .loop-test .taken) (c .before .before .before .pre .0)) mul-gather-row gather-row-requires mul-members element-write-members add-r (λ c. turn-next _ _ (c .before .before .before .before .loop-test .taken) (c .before .before .before .before .before .before .before .pre .0)) (λ c. turn-less _ _ (c .before .before .before .before .loop-test .taken)) loop-again (λ c. turn-next _ _ (c .before .before .loop-test .taken) (c .before .before .before .before .before .pre .0)) (λ c. turn-less _ _ (c .before .before .loop-test .taken)) loop-again-2 returns)

@@ -8,6 +8,7 @@ use lib.Ieee.{Float, nan}
 use Rattle.groups.specs.Picks.{picked, ticks}
 use Rattle.groups.proofs.Picking.{picked-on, picked-off, picked-long, ticks-le}
 use Rattle.assignment.specs.Picks.{bears, Laid}
+use Rattle.assignment.proofs.Places.{turn-in, turn-less, turn-next, turn-room}
 use Rattle.assignment.proofs.Picking.{laid-none, laid-more}
 use Rattle.assignment.proofs.table.gather_row.Statement.{statement}
 use Rattle.assignment.proofs.table.gather_row.Tie as tie
@@ -34,4 +35,4 @@ returns c = let l = c .before in let e : l .loop .j ≡ l .before .args .columns
 pub gather-row-spec : {M : Type 1} → statement M
 gather-row-spec =
     tie.close
-    (tie.spec Inv-loop μ-loop loop-holds (λ c. search needs) (λ c. search needs) (λ c. search needs) (λ c. search needs) (λ c. search needs) (λ c. search needs) (λ c. search needs) (λ c. search needs) (λ c. search needs) (λ c. search needs) loop-again (λ c. search needs) (λ c. search needs) loop-again-2 returns)
+    (tie.spec Inv-loop μ-loop loop-holds (λ c. turn-room _ _ (c .loop-test .taken) (c .before .before .pre .1)) (λ c. turn-in _ _ (c .loop-test .taken) (c .before .before .pre .1)) (λ c. search needs) (λ c. search needs) (λ c. search needs) (λ c. search needs) (λ c. search needs) (λ c. search needs) (λ c. turn-next _ _ (c .before .before .before .loop-test .taken) (c .before .before .before .before .before .pre .1)) (λ c. turn-less _ _ (c .before .before .before .loop-test .taken)) loop-again (λ c. turn-next _ _ (c .before .before .loop-test .taken) (c .before .before .before .before .pre .1)) (λ c. turn-less _ _ (c .before .before .loop-test .taken)) loop-again-2 returns)

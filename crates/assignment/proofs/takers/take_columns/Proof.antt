@@ -3,6 +3,7 @@ use native.Mathlib.Omega.{arith}
 use mathlib.Core.Path.{_≡_, refl, sym, ap, _∙_, subst}
 use Prim.Native.Nat.{ℕ, _+_, _-_, _*_, _≤_, _<_}
 use borrow.Author.Tests.{eq-eqb, ne-eqb}
+use Rattle.assignment.proofs.Places.{turn-in, turn-less, turn-next, turn-room}
 use Rattle.assignment.proofs.Takes.{Taking, taking-none, taking-skip, taking-take, taken}
 use Rattle.assignment.proofs.takers.take_columns.Statement.{statement}
 use Rattle.assignment.proofs.takers.take_columns.Tie as tie
@@ -31,4 +32,4 @@ returns c = let l = c .before in let e : l .loop .j ≡ l .before .args .columns
 pub take-columns-spec : {M : Type 1} → statement M
 take-columns-spec =
     tie.close
-    (tie.spec Inv-loop μ-loop loop-holds (λ c. search needs) (λ c. search needs) (λ c. search needs) (λ c. search needs) (λ c. search needs) taker-requires (λ c. search needs) (λ c. search needs) (λ c. search needs) (λ c. search needs) loop-again (λ c. search needs) (λ c. search needs) loop-again-2 returns)
+    (tie.spec Inv-loop μ-loop loop-holds (λ c. turn-room _ _ (c .loop-test .taken) (c .before .before .pre .0)) (λ c. turn-in _ _ (c .loop-test .taken) (c .before .before .pre .0)) (λ c. search needs) (λ c. search needs) (λ c. search needs) taker-requires (λ c. turn-room _ _ (c .before .before .before .before .loop-test .taken) (c .before .before .before .before .before .before .pre .0)) (λ c. turn-in _ _ (c .before .before .before .before .loop-test .taken) (c .before .before .before .before .before .before .pre .0)) (λ c. turn-next _ _ (c .before .before .before .before .loop-test .taken) (c .before .before .before .before .before .before .pre .0)) (λ c. turn-less _ _ (c .before .before .before .before .loop-test .taken)) loop-again (λ c. turn-next _ _ (c .before .before .loop-test .taken) (c .before .before .before .before .pre .0)) (λ c. turn-less _ _ (c .before .before .loop-test .taken)) loop-again-2 returns)

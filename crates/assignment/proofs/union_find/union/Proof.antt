@@ -3,6 +3,7 @@ use mathlib.Core.Path.{_≡_, refl, sym, ap, _∙_}
 use Prim.Native.Nat.{ℕ, _+_, _≤_, _<_}
 use native.Mathlib.Omega.{arith}
 use Rattle.assignment.specs.Forest.{Forest, Ranked, United}
+use Rattle.assignment.proofs.Places.{room8}
 use Rattle.assignment.proofs.Unions.{found-ranked, low, united-same, united-below, united-above, united-level}
 use Rattle.assignment.proofs.union_find.union.Statement.{statement}
 use Rattle.assignment.proofs.union_find.union.Tie as tie
@@ -28,5 +29,27 @@ returns-4 c = let e = c .before .before .before .before .before .before in let s
 pub union-spec : {M : Type 1} → statement M
 union-spec =
     tie.close
-    (tie.spec (λ c κs. search needs) find-requires-2 returns (λ c. search needs) (λ c. search needs) (λ c. search needs) (λ c. search needs) (λ c. search needs) (λ c. search needs) returns-2 (λ c. search needs) (λ c. search needs) (λ c. search needs) (λ c. search needs) (λ c. search needs) (λ c. search needs) (λ c. search needs) (λ c. search needs) add-rank (λ c. search needs)
-    (λ c. search needs) returns-3 returns-4)
+    (tie.spec
+    (λ c κs. search needs)
+    find-requires-2
+    returns
+    (λ c. room8 _ (c .before .before .before .before .find .ensures .inside))
+    (λ c. c .before .before .before .before .find .ensures .inside)
+    (λ c. room8 _ (c .before .before .find2 .ensures .inside))
+    (λ c. c .before .before .find2 .ensures .inside)
+    (λ c. room8 _ (c .before .before .before .before .before .before .before .find .ensures .inside))
+    (λ c. c .before .before .before .before .before .before .before .find .ensures .inside)
+    returns-2
+    (λ c. room8 _ (c .before .before .before .before .find2 .ensures .inside))
+    (λ c. c .before .before .before .before .find2 .ensures .inside)
+    (λ c. room8 _ (c .before .before .before .before .before .before .before .find .ensures .inside))
+    (λ c. c .before .before .before .before .before .before .before .find .ensures .inside)
+    (λ c. room8 _ (c .before .before .before .before .before .find2 .ensures .inside))
+    (λ c. c .before .before .before .before .before .find2 .ensures .inside)
+    (λ c. room8 _ (c .before .before .before .before .before .before .before .before .before .before .find .ensures .inside))
+    (λ c. c .before .before .before .before .before .before .before .before .before .before .find .ensures .inside)
+    add-rank
+    (λ c. room8 _ (c .before .before .before .before .before .before .before .before .before .before .before .find .ensures .inside))
+    (λ c. c .before .before .before .before .before .before .before .before .before .before .before .find .ensures .inside)
+    returns-3
+    returns-4)

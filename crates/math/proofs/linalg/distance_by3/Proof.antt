@@ -1,8 +1,7 @@
 use mathlib.Core.Path.{_≡_, sym, ap, _∙_}
-use mathlib.Core.Bool.{true, false}
 use borrow.Author.Needs.{needs}
 use Rattle.matrix.specs.Matrix.{Vector, dot}
-use Rattle.math.specs.Checks.{finiteVector}
+use Rattle.finite.specs.Finite.{finiteVector}
 use Rattle.math.specs.Linalg.{distanceReply}
 use Rattle.math.proofs.Answers.{solution-finite, solution-infinite}
 use Rattle.math.proofs.linalg.distance_by3.Statement.{statement}

@@ -1,4 +1,5 @@
 use mathlib.Core.Path.{sym, ap, _∙_}
+use Rattle.definite.specs.Definite.{replyOfFound}
 use Rattle.math.specs.Linalg.{replyOfValidity}
 use Rattle.math.proofs.Answers.{factor-decides, entries-decide}
 use borrow.Author.Needs.{needs}
@@ -7,11 +8,18 @@ use Rattle.math.proofs.linalg.validate_covariance6.Tie as tie
 
 returns : tie.Need-returns
 returns c =
-    let told = c .before in
-    factor-decides 6 _ (ap replyOfValidity (sym (told .enum-told .given .1)) ∙ told .before .before .check-entries6 .ensures) (c .check-factor6 .ensures)
+    let h = c .before in
+    let told = h .before in
+    factor-decides 6 _ (ap replyOfValidity (sym (told .enum-told .given .1)) ∙ told .before .before .check-entries6 .ensures) (ap replyOfFound (sym (c .if1 .taken)) ∙ h .has-factor6 .ensures)
 
 returns-2 : tie.Need-returns-2
 returns-2 c =
+    let h = c .before in
+    let told = h .before in
+    factor-decides 6 _ (ap replyOfValidity (sym (told .enum-told .given .1)) ∙ told .before .before .check-entries6 .ensures) (ap replyOfFound (sym (c .if1 .left)) ∙ h .has-factor6 .ensures)
+
+returns-3 : tie.Need-returns-3
+returns-3 c =
     let found = c .before in
     entries-decide 6 _ (ap replyOfValidity (sym (found .why .given .1)) ∙ found .before .before .check-entries6 .ensures)
 
@@ -24,4 +32,5 @@ validate-covariance6-spec =
     (λ c κs. search needs)
     (λ c. search needs)
     returns
-    returns-2)
+    returns-2
+    returns-3)

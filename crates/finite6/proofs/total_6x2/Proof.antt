@@ -1,0 +1,15 @@
+use lib.Ieee.{binary64, add}
+use borrow.Author.Needs.{needs}
+use Rattle.finite6.proofs.total_6x2.Statement.{statement}
+use Rattle.finite6.proofs.total_6x2.Tie as tie
+
+returns : tie.Need-returns
+returns c = λ i. add binary64 (c .before .column-total-6x2 .ensures i) (c .column-total-6x22 .ensures i)
+
+pub total-6x2-spec : {M : Type 1} → statement M
+total-6x2-spec =
+    tie.close
+    (tie.spec
+    (λ c κs. search needs)
+    (λ c κs. search needs)
+    returns)

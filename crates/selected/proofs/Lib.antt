@@ -1,0 +1,5 @@
+pub mod Picks
+pub mod Selected
+pub mod Plain
+pub mod Reading
+pub mod Arrays
