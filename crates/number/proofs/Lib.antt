@@ -5,3 +5,4 @@ pub mod Held
 pub mod Finite
 pub mod Equal
 pub mod Plus
+pub mod Replies
