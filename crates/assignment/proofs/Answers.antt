@@ -10,7 +10,7 @@ use lib.ListN.{length, take, length-map}
 use lib.Ieee.{Float}
 use lib.Ieee.Scale.{finite}
 use Rattle.number.specs.Reply.{Reply, refused, given}
-use Rattle.kuhn_munkres.specs.Strike.{zipped}
+use Rattle.lists.specs.Masks.{zipped}
 use Rattle.kuhn_munkres.specs.Assignment.{Pair, Pairs, bind, rowsOf, pairing, pairsOf, takersReply, assignmentReply}
 use Rattle.groups.proofs.Once.{pairing-sound}
 use Rattle.least.proofs.Answer.{assignment-least}

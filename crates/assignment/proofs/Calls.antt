@@ -13,7 +13,7 @@ use lib.Seq.{take-all, length-take-le}
 use lib.Ieee.{Float}
 use lib.Ieee.Scale.{finite}
 use Rattle.number.specs.Reply.{Reply, refused, given}
-use Rattle.kuhn_munkres.specs.Strike.{upFrom}
+use Rattle.lists.specs.Masks.{upFrom}
 use Rattle.kuhn_munkres.specs.Groups.{labels}
 use Rattle.kuhn_munkres.specs.Assignment.{rowsOf, larger, largest, largestOf, sentinelOf, groups, pairing, orElse, takersReply}
 use Rattle.assignment.specs.Labelling.{rowOr}

@@ -12,7 +12,8 @@ use lib.ListN.{getD, length, take, drop, length-map, length-drop}
 use lib.Seq.{getD-take, getD-drop, ext-getD, length-take-le}
 use lib.Ieee.{Float, nan}
 use lib.Ieee.Scale.{finite}
-use Rattle.kuhn_munkres.specs.Strike.{strike, spread, anyOf, upFrom}
+use Rattle.lists.specs.First.{any}
+use Rattle.lists.specs.Masks.{leftBy, spread, upFrom}
 use Rattle.kuhn_munkres.specs.Groups.{Labels, labels, isLabel}
 use Rattle.kuhn_munkres.specs.Assignment.{rowsOf, takerOf, named, same}
 use Rattle.kuhn_munkres.proofs.Labels.{Named, map-at}
@@ -84,7 +85,7 @@ module _ (costs : List Float) (n m : ℕ) (rowNames columnNames : List ℕ) (hn 
   members-is = rows-are costs n m size g ∙ picked-same _ _ _ _ n rm-at (λ i h. refl)
 
   -- a group whose name its own row doesn't bear has no column
-  pub unborne : (getD rowNames g 0 ≡ g → ⊥) → anyOf same cm ≡ false
+  pub unborne : (getD rowNames g 0 ≡ g → ⊥) → any same cm ≡ false
   unborne f = any-none cm (bears columnNames g) m cm-long cm-at (zero-ticks (decLt 0 (ticks (bears columnNames g) m)))
     where
       absent : (j : ℕ) → j < m → bears columnNames g j ≡ true → ⊥
@@ -97,10 +98,10 @@ module _ (costs : List Float) (n m : ℕ) (rowNames columnNames : List ℕ) (hn 
       zero-ticks (yes h) = let r = some-tick (bears columnNames g) m h in absurd (absent (r .0) (r .1) (r .2))
       zero-ticks (no h) = omega arith
 
-  pub no-column : ticks (bears columnNames g) m ≡ 0 → anyOf same cm ≡ false
+  pub no-column : ticks (bears columnNames g) m ≡ 0 → any same cm ≡ false
   no-column e = any-none cm (bears columnNames g) m cm-long cm-at e
 
-  pub some-column : (ticks (bears columnNames g) m ≡ 0 → ⊥) → anyOf same cm ≡ true
+  pub some-column : (ticks (bears columnNames g) m ≡ 0 → ⊥) → any same cm ≡ true
   some-column f = any-some cm (bears columnNames g) m cm-long cm-at f
 
   pub some-row : getD rowNames g 0 ≡ g → 0 < ticks (bears rowNames g) n
@@ -156,7 +157,7 @@ module _ (costs : List Float) (n m : ℕ) (rowNames columnNames : List ℕ) (hn 
     takers-long : (l : List ℕ) → length l ≡ 64 → length (takersOf m l) ≡ m
     takers-long l h = length-map (take m l) rowOr ∙ length-take-le m l (rw h hm)
 
-    pub taken-is : takersOf m after ≡ spread cm (map (named (strike rm (upFrom zero R))) own) (takersOf m before)
+    pub taken-is : takersOf m after ≡ spread cm (map (named (leftBy rm (upFrom zero R))) own) (takersOf m before)
     taken-is =
         rw (members-is, ← members-are)
         (ext-getD none (takersOf m after) (spread cm (map (named (take r members)) own) (takersOf m before)) (takers-long after (t .long) ∙ sym (spread-long cm (map (named (take r members)) own) (takersOf m before) (cm-long ∙ sym (takers-long before before-long)) ∙ takers-long before before-long))

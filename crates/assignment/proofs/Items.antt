@@ -15,7 +15,7 @@ use lib.ListN.{getD, length, take, drop, replicate, List·getD-eq-default, lengt
 use lib.Seq.{getD-take, getD-drop}
 use lib.Ieee.{Float, nan}
 use lib.Ieee.Scale.{finite}
-use Rattle.kuhn_munkres.specs.Strike.{anyOf}
+use Rattle.lists.specs.First.{any}
 use Rattle.kuhn_munkres.specs.Groups.{Labels, hits, relabel, relabelled, joinedTo, join, labels, joins, alone}
 use Rattle.kuhn_munkres.specs.Assignment.{rowsOf}
 use Rattle.kuhn_munkres.proofs.Labels.{nones-at, Named, Touching, named-all, labels-snoc, row-long, hit-in, hit-out, row-before, row-new, col-new, col-beyond, named-join}
@@ -127,13 +127,13 @@ module _ (n m : ℕ) (costs : List Float) (i : ℕ) (hi : i < n) (fits : suc i *
       go (some g) q = let w : g ≡ l = sym (col-some j g q) ∙ e in inr (rw w at (N .col-low j g q), q ∙ ap some w)
 
   -- what a row's label is touched by is what the definition has as hit
-  hit-is : (l : ℕ) → l < n → touched A Λ n m l ≡ anyOf (eqb l) (hits finite row (s .ofColumns))
+  hit-is : (l : ℕ) → l < n → touched A Λ n m l ≡ any (eqb l) (hits finite row (s .ofColumns))
   hit-is l h = same-bool _ _ (λ e. into (touch-out A Λ n m l e)) (λ e. out (hit-out finite nan refl row (s .ofColumns) l e))
     where
-      into : Toucher A Λ n m l → anyOf (eqb l) (hits finite row (s .ofColumns)) ≡ true
+      into : Toucher A Λ n m l → any (eqb l) (hits finite row (s .ofColumns)) ≡ true
       into t = by (bears (t .at) l (t .is))
         where
-          by : ((n + t .at ≡ l) × (getD (s .ofColumns) (t .at) none ≡ none)) ⊎ ((l < i) × (getD (s .ofColumns) (t .at) none ≡ some l)) → anyOf (eqb l) (hits finite row (s .ofColumns)) ≡ true
+          by : ((n + t .at ≡ l) × (getD (s .ofColumns) (t .at) none ≡ none)) ⊎ ((l < i) × (getD (s .ofColumns) (t .at) none ≡ some l)) → any (eqb l) (hits finite row (s .ofColumns)) ≡ true
           by (inl p) = absurd (let e = p .0 in omega arith)
           by (inr p) = hit-in finite nan refl row (s .ofColumns) (t .at) l (ap finite (row-at (t .at) (t .below)) ∙ t .may) (p .1)
 

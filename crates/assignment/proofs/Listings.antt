@@ -12,7 +12,7 @@ use lib.Dec.{eqb, ltb}
 use lib.ListN.{getD, set, length, take, drop, replicate, length-append, length-map, length-replicate}
 use lib.Seq.{set-append-seam, append-snoc, drop-cons, drop-length, getD-take, length-take-le, take-append-seam}
 use Rattle.number.specs.Reply.{Reply, refused, given}
-use Rattle.kuhn_munkres.specs.Strike.{zipped}
+use Rattle.lists.specs.Masks.{zipped}
 use Rattle.kuhn_munkres.specs.Groups.{isLabel}
 use Rattle.kuhn_munkres.specs.Assignment.{Pair, Pairs, columnOf, pairAt, freeAt, pairsFrom, freeRows, freeColumns, pairsOf}
 use Rattle.kuhn_munkres.proofs.Labels.{map-at}

@@ -16,7 +16,8 @@ use Rattle.number.specs.Reply.{Reply, refused, given}
 use Rattle.kuhn_munkres.specs.Binary64.{float}
 use Rattle.kuhn_munkres.specs.Square.{Square, entry}
 use Rattle.kuhn_munkres.specs.Steps.{State, Search, found, stopped, spent, rows}
-use Rattle.kuhn_munkres.specs.Strike.{strike, spread, anyOf, upFrom}
+use Rattle.lists.specs.First.{any}
+use Rattle.lists.specs.Masks.{leftBy, spread, upFrom}
 use Rattle.kuhn_munkres.specs.Groups.{Labels, labels, isLabel}
 use Rattle.kuhn_munkres.specs.Assignment.{rowsOf, inOne, takerOf, takersIn, solved, squareOf, named, bind, groupIn, groups, same}
 use Rattle.kuhn_munkres.proofs.Kept.{AllFound, of-found, rows-long}
@@ -80,9 +81,9 @@ module _ (costs : List Float) (n m : ℕ) (rowNames columnNames : List ℕ) (far
   dense table = ownReply far rowCost columnCost table
 
   abbrev T : List (List Float)
-  T = map (strike cm) (strike rm R)
+  T = map (leftBy cm) (leftBy rm R)
 
-  nothing : (before : List ℕ) → length before ≡ 64 → anyOf same cm ≡ false → GroupTaken costs n m far rowCost columnCost g true before before
+  nothing : (before : List ℕ) → length before ≡ 64 → any same cm ≡ false → GroupTaken costs n m far rowCost columnCost g true before before
   unfolding groupIn
   nothing before l e = record { long = l; is = rw e }
 
@@ -122,16 +123,16 @@ module _ (costs : List Float) (n m : ℕ) (rowNames columnNames : List ℕ) (far
     unfolding solved
     dense-is = ap (λ (q : Square Float). takersIn q (rows float (entry float q) (q .rows + q .cols) (q .rows + q .cols))) square
 
-    any : anyOf same cm ≡ true
-    any = some-column costs n m rowNames columnNames (C .rows-few) (C .columns-few) (C .size) (C .named) g hg (λ z. c-some (c-is ∙ z))
+    any-column : any same cm ≡ true
+    any-column = some-column costs n m rowNames columnNames (C .rows-few) (C .columns-few) (C .size) (C .named) g hg (λ z. c-some (c-is ∙ z))
 
-    group-is : (t : List (Option ℕ)) → groupIn dense (anyOf same cm) R (upFrom zero R) rm cm t ≡ bind (takersIn Q X) (λ o. given (spread cm (map (named (strike rm (upFrom zero R))) o) t))
+    group-is : (t : List (Option ℕ)) → groupIn dense (any same cm) R (upFrom zero R) rm cm t ≡ bind (takersIn Q X) (λ o. given (spread cm (map (named (leftBy rm (upFrom zero R))) o) t))
     unfolding groupIn
-    group-is t = ap (λ (b : Bool). groupIn dense b R (upFrom zero R) rm cm t) any ∙ ap (λ (y : Reply (List (Option ℕ))). bind y (λ o. given (spread cm (map (named (strike rm (upFrom zero R))) o) t))) dense-is
+    group-is t = ap (λ (b : Bool). groupIn dense b R (upFrom zero R) rm cm t) any-column ∙ ap (λ (y : Reply (List (Option ℕ))). bind y (λ o. given (spread cm (map (named (leftBy rm (upFrom zero R))) o) t))) dense-is
 
     pub group-failed : (before : List ℕ) → length before ≡ 64 → refused 10 ≡ endReply X → GroupTaken costs n m far rowCost columnCost g false before before
     unfolding bind
-    group-failed before l e = record { long = l; is = sym (group-is (takersOf m before) ∙ ap (λ (y : Reply (List (Option ℕ))). bind y (λ o. given (spread cm (map (named (strike rm (upFrom zero R))) o) (takersOf m before)))) (failed Q X e)) }
+    group-failed before l e = record { long = l; is = sym (group-is (takersOf m before) ∙ ap (λ (y : Reply (List (Option ℕ))). bind y (λ o. given (spread cm (map (named (leftBy rm (upFrom zero R))) o) (takersOf m before)))) (failed Q X e)) }
 
     pub group-solved : (before after : List ℕ) (p : List ℕ) → length before ≡ 64 → given p ≡ endReply X → Taken columnNames g m p r members before after → GroupTaken costs n m far rowCost columnCost g true before after
     unfolding bind takersIn
@@ -141,8 +142,8 @@ module _ (costs : List Float) (n m : ℕ) (rowNames columnNames : List ℕ) (far
         let w : takersIn Q X ≡ given (map (takerOf r) (take c (drop 1 p))) = ap (takersIn Q) (d .is) ∙ ap (λ (y : List ℕ). given (map (takerOf r) (take c (drop 1 y)))) (d .rows-are) in
         record {
           long = t .long;
-          is = sym (group-is (takersOf m before) ∙ ap (λ (y : Reply (List (Option ℕ))). bind y (λ o. given (spread cm (map (named (strike rm (upFrom zero R))) o) (takersOf m before)))) w
-              ∙ ap given (ap (λ (k : ℕ). spread cm (map (named (strike rm (upFrom zero R))) (map (takerOf r) (take k (drop 1 p)))) (takersOf m before)) c-is ∙ sym (taken-is costs n m rowNames columnNames (C .rows-few) (C .columns-few) (C .size) (C .named) g hg p long r members before after group-rows (G .members-are) (G .count) l t)));
+          is = sym (group-is (takersOf m before) ∙ ap (λ (y : Reply (List (Option ℕ))). bind y (λ o. given (spread cm (map (named (leftBy rm (upFrom zero R))) o) (takersOf m before)))) w
+              ∙ ap given (ap (λ (k : ℕ). spread cm (map (named (leftBy rm (upFrom zero R))) (map (takerOf r) (take k (drop 1 p)))) (takersOf m before)) c-is ∙ sym (taken-is costs n m rowNames columnNames (C .rows-few) (C .columns-few) (C .size) (C .named) g hg p long r members before after group-rows (G .members-are) (G .count) l t)));
         }
 
 -- a group fits the square
@@ -170,7 +171,7 @@ module _ (costs : List Float) (n m : ℕ) (far rowCost columnCost : Float) where
   going-first before l = record { long = l; rest = refl }
 
   next-groups : (g : ℕ) (t : List (Option ℕ)) → g < n → groups (ownReply far rowCost columnCost) R' s' (upFrom g (drop g R')) t
-      ≡ bind (groupIn (ownReply far rowCost columnCost) (anyOf same (map (isLabel g) (s' .ofColumns))) R' (upFrom zero R') (map (eqb g) (s' .ofRows)) (map (isLabel g) (s' .ofColumns)) t) (groups (ownReply far rowCost columnCost) R' s' (upFrom (suc g) (drop (suc g) R')))
+      ≡ bind (groupIn (ownReply far rowCost columnCost) (any same (map (isLabel g) (s' .ofColumns))) R' (upFrom zero R') (map (eqb g) (s' .ofRows)) (map (isLabel g) (s' .ofColumns)) t) (groups (ownReply far rowCost columnCost) R' s' (upFrom (suc g) (drop (suc g) R')))
   unfolding groups upFrom
   next-groups g t h = ap (λ (l : List (List Float)). groups (ownReply far rowCost columnCost) R' s' (upFrom g l) t) (drop-cons R' g [] (rw (rows-count n m costs) h))
 

@@ -8,7 +8,7 @@ use lib.ListN.{length, take, replicate}
 use lib.Dec.{eqb, ltb}
 use lib.Ieee.{Float}
 use Rattle.number.specs.Reply.{Reply, refused, given}
-use Rattle.kuhn_munkres.specs.Strike.{zipped}
+use Rattle.lists.specs.Masks.{zipped}
 use Rattle.kuhn_munkres.specs.Assignment.{Pair, Pairs, columnOf, pairsFrom, freeRows, freeColumns, assignmentReply}
 use Rattle.least.specs.Least.{LeastOnWholes}
 use Rattle.assignment.specs.Replies.{replyOf}

@@ -9,7 +9,8 @@ use lib.Dec.{eqb, ltb}
 use lib.Ieee.{Float}
 use lib.Ieee.Scale.{finite}
 use Rattle.number.specs.Reply.{Reply, refused, given}
-use Rattle.kuhn_munkres.specs.Strike.{upFrom, anyOf}
+use Rattle.lists.specs.First.{any}
+use Rattle.lists.specs.Masks.{upFrom}
 use Rattle.kuhn_munkres.specs.Groups.{labels, isLabel}
 use Rattle.kuhn_munkres.specs.Assignment.{rowsOf, groupIn, groups, same}
 use Rattle.groups.specs.Picks.{ticks}
@@ -46,7 +47,7 @@ pub record Call (costs : List Float) (n m : ℕ) (rowNames columnNames : List �
 pub record GroupTaken (costs : List Float) (n m : ℕ) (far rowCost columnCost : Float) (g : ℕ) (ok : Bool) (before after : List ℕ) : Type 0 where
   pub long : length after ≡ 64
   pub is : (let R = rowsOf n m costs in let s = labels finite R m in let cm = map (isLabel g) (s .ofColumns) in
-      replyIf ok (takersOf m after) ≡ groupIn (ownReply far rowCost columnCost) (anyOf same cm) R (upFrom zero R) (map (eqb g) (s .ofRows)) cm (takersOf m before))
+      replyIf ok (takersOf m after) ≡ groupIn (ownReply far rowCost columnCost) (any same cm) R (upFrom zero R) (map (eqb g) (s .ofRows)) cm (takersOf m before))
 
 pub record AllTaken (costs : List Float) (n m : ℕ) (far rowCost columnCost : Float) (ok : Bool) (before after : List ℕ) : Type 0 where
   pub long : length after ≡ 64

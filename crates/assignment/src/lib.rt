@@ -1,6 +1,6 @@
 // The least-cost pairing of rows with columns, and who is left: joined groups, each by the steps of `hungarian_square`.
 mod joining;
-mod lists;
+mod pair_lists;
 mod table;
 mod takers;
 mod union_find;
@@ -83,7 +83,7 @@ fn listed(takers: &[usize; 64], rows: usize, columns: usize) -> Assignment
     let mut pair_columns = [0usize; 64];
     let mut unmatched_rows = [0usize; 64];
     let mut unmatched_columns = [0usize; 64];
-    let pair_count = lists::list_rows(
+    let pair_count = pair_lists::list_rows(
         takers,
         rows,
         columns,
@@ -91,7 +91,7 @@ fn listed(takers: &[usize; 64], rows: usize, columns: usize) -> Assignment
         &mut pair_columns,
         &mut unmatched_rows,
     );
-    let unmatched_column_count = lists::list_columns(takers, columns, &mut unmatched_columns);
+    let unmatched_column_count = pair_lists::list_columns(takers, columns, &mut unmatched_columns);
     let unmatched_row_count = rows - pair_count;
     Assignment {
         pair_rows,

@@ -1,7 +1,7 @@
 -- Groups compose: where each group's own takers have the least weight on its own table, all of them have the least weight on the whole table.
 use mathlib.Core.Path.{_≡_, refl, sym, ap, ap₂, _∙_, subst}
 use mathlib.Core.Logic.{_⊎_, inl, inr}
-use mathlib.Core.Bool.{Bool, true, false, cond, true≢false, _||_}
+use mathlib.Core.Bool.{Bool, true, false, cond, true≢false}
 use mathlib.Core.List.{List, [], _∷_}
 use mathlib.Core.Option.{Option, none, some}
 use Prim.Native.Nat.{ℕ, zero, _+_, _*_, _≤_, _<_}
@@ -18,7 +18,8 @@ use Rattle.whole.specs.Integer.{Integer, 0Z, _-Z_, _≤Z_, _≈_, Within, sum}
 use Rattle.whole.specs.Whole.{WholeValue}
 use Rattle.whole.specs.Takers.{weightOf, Takes, LeastTakes}
 use Rattle.whole.proofs.OneOne.{sum-same}
-use Rattle.kuhn_munkres.specs.Strike.{anyOf, upFrom}
+use Rattle.lists.specs.First.{any}
+use Rattle.lists.specs.Masks.{upFrom}
 use Rattle.kuhn_munkres.specs.Groups.{labels}
 use Rattle.kuhn_munkres.specs.Assignment.{rowsOf, named, bind, groupIn, groups, same}
 use Rattle.kuhn_munkres.proofs.Labels.{rows-count, none-some, some-same, some-in, nones-at}
@@ -190,7 +191,7 @@ module _ (costs : List Float) (n m : ℕ) (size : length costs ≡ n * m) (cost 
           go j h true e = rw (at j h ∙ ap (λ (b : Bool). cond b (named (ownRows costs n m g) (getD own (ticks C j) none)) (getD t j none)) (off j h e)) (omega arith)
 
     -- a group with no column has nothing to weigh
-    empty-least : (t : List (Option ℕ)) → anyOf same (columnMask costs n m g) ≡ false → LeastOn g t
+    empty-least : (t : List (Option ℕ)) → any same (columnMask costs n m g) ≡ false → LeastOn g t
     empty-least t e other O = let a = sum-same (part C (weighs (takers t))) (part C (weighs other)) m (λ j h. rw (any-off (columnMask costs n m g) e j) (omega arith)) in omega arith
 
   -- ---- group after group
@@ -200,13 +201,13 @@ module _ (costs : List Float) (n m : ℕ) (size : length costs ≡ n * m) (cost 
     R = tableOf costs n m
 
     abbrev groupReply : ℕ → List (Option ℕ) → Reply (List (Option ℕ))
-    groupReply g t = groupIn dense (anyOf same (columnMask costs n m g)) R (upFrom zero R) (rowMask costs n m g) (columnMask costs n m g) t
+    groupReply g t = groupIn dense (any same (columnMask costs n m g)) R (upFrom zero R) (rowMask costs n m g) (columnMask costs n m g) t
 
     -- one group's own table, solved
     abbrev Solved : ℕ → Type 0
     Solved g = (own : List (Option ℕ)) × (dense (T g) ≡ given own) × (length own ≡ c g) × LeastTakes (allows (T g)) (own-cost g) row column (r g) (c g) (takers own)
 
-    solved-own : (g : ℕ) → anyOf same (columnMask costs n m g) ≡ true → Solved g
+    solved-own : (g : ℕ) → any same (columnMask costs n m g) ≡ true → Solved g
     solved-own g e =
         solves (T g) (r g) (c g) (own-cost g) (some-row costs n m size g e) (let b = ticks-le (B g) n in omega arith) (let b = ticks-le (C g) m in omega arith) (table-long costs n m size g) (table-wide costs n m size g)
         (λ x k h l q. entries x k h l q)
@@ -227,9 +228,9 @@ module _ (costs : List Float) (n m : ℕ) (size : length costs ≡ n * m) (cost 
 
     stepped : (g : ℕ) (t : List (Option ℕ)) → Sound costs n m t → May t → Stepped g t
     unfolding groupIn bind
-    stepped g t S M = go (anyOf same (columnMask costs n m g)) refl
+    stepped g t S M = go (any same (columnMask costs n m g)) refl
       where
-        solved : anyOf same (columnMask costs n m g) ≡ true → Solved g → Stepped g t
+        solved : any same (columnMask costs n m g) ≡ true → Solved g → Stepped g t
         solved e s = record {
           u = put costs n m g t (s .0);
           is = rw (e, s .1);
@@ -243,7 +244,7 @@ module _ (costs : List Float) (n m : ℕ) (size : length costs ≡ n * m) (cost 
             by k L (yes z) = subst (λ (x : ℕ). LeastOn x (put costs n m g t (s .0))) (sym z) (put-least g t (s .0) S (s .2) (s .3))
             by k L (no z) = put-kept g t (s .0) S (s .2) (s .3) k z L
 
-        go : (b : Bool) → anyOf same (columnMask costs n m g) ≡ b → Stepped g t
+        go : (b : Bool) → any same (columnMask costs n m g) ≡ b → Stepped g t
         go false e = record { u = t; is = rw e; sound = S; may = M; least = empty-least g t e; kept = λ k L. L }
         go true e = solved e (solved-own g e)
 
@@ -254,10 +255,10 @@ module _ (costs : List Float) (n m : ℕ) (size : length costs ≡ n * m) (cost 
       sound : Sound costs n m u
       may : May u
       kept : (k : ℕ) → LeastOn k t → LeastOn k u
-      least : (k : ℕ) → anyOf (eqb k) gs ≡ true → LeastOn k u
+      least : (k : ℕ) → any (eqb k) gs ≡ true → LeastOn k u
 
     composed : (gs : List ℕ) (t : List (Option ℕ)) → Sound costs n m t → May t → Composed gs t
-    unfolding groups anyOf bind
+    unfolding groups any bind
     composed [] t S M = record { u = t; is = refl; sound = S; may = M; kept = λ k L. L; least = λ k e. absurd (true≢false (sym e)) }
     composed (g ∷ gs) t S M = let s = stepped g t S M in go s (composed gs (s .u) (s .sound) (s .may))
       where
@@ -271,7 +272,7 @@ module _ (costs : List Float) (n m : ℕ) (size : length costs ≡ n * m) (cost 
           least = λ k e. by k e (ℕ-discrete k g);
         }
           where
-            by : (k : ℕ) → (eqb k g || anyOf (eqb k) gs) ≡ true → Dec (k ≡ g) → LeastOn k (q .u)
+            by : (k : ℕ) → cond (eqb k g) true (any (eqb k) gs) ≡ true → Dec (k ≡ g) → LeastOn k (q .u)
             by k e (yes z) = q .kept k (subst (λ (x : ℕ). LeastOn x (s .u)) (sym z) (s .least))
             by k e (no z) = q .least k (rw (ne-eqb k g z) at e)
 

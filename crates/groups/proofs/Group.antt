@@ -12,14 +12,15 @@ use lib.ListN.{getD, length, drop, length-map}
 use lib.Seq.{getD-take, getD-drop}
 use lib.Ieee.{Float, nan}
 use lib.Ieee.Scale.{finite}
-use Rattle.kuhn_munkres.specs.Strike.{strike, anyOf, upFrom}
+use Rattle.lists.specs.First.{any}
+use Rattle.lists.specs.Masks.{leftBy, upFrom}
 use Rattle.kuhn_munkres.specs.Groups.{isLabel}
 use Rattle.kuhn_munkres.specs.Assignment.{same}
 use Rattle.kuhn_munkres.proofs.Labels.{Named, named-all, map-at, rows-count, row-long}
 use Rattle.groups.specs.Picks.{picked}
 use Rattle.groups.specs.Group.{tableOf, labelsOf, columnMask, rowMask, columnIn, rowIn, width, height, columnAt, rowAt, ownTable, ownRows}
 use Rattle.groups.proofs.Picking.{picked-long, picked-same, picked-map, picked-at, ticks-some}
-use Rattle.groups.proofs.Masks.{strike-picked, any-out, rows-at, up-at, up-long}
+use Rattle.groups.proofs.Masks.{left-picked, any-out, rows-at, up-at, up-long}
 
 module _ (costs : List Float) (n m : ℕ) (size : length costs ≡ n * m) where
   abbrev R : List (List Float)
@@ -60,7 +61,7 @@ module _ (costs : List Float) (n m : ℕ) (size : length costs ≡ n * m) where
     label-row i h e = map-at (eqb g) (labelsOf costs n m .ofRows) i 0 false (rw (labelled .rows-long) h) ∙ eq-eqb g (getD (labelsOf costs n m .ofRows) i 0) (sym e)
 
     -- a column in the group has a row in it
-    pub some-row : anyOf same (columnMask costs n m g) ≡ true → 0 < height costs n m g
+    pub some-row : any same (columnMask costs n m g) ≡ true → 0 < height costs n m g
     some-row e =
         let q = any-out (columnMask costs n m g) e in
         let h : q .0 < m = rw columns-long at (q .1) in
@@ -69,21 +70,21 @@ module _ (costs : List Float) (n m : ℕ) (size : length costs ≡ n * m) where
 
     pub rows-are : ownRows costs n m g ≡ picked B (λ i. i) n
     rows-are =
-        strike-picked 0 (rowMask costs n m g) (upFrom zero R) n rows-long (up-long zero R ∙ rows-count n m costs)
+        left-picked 0 (rowMask costs n m g) (upFrom zero R) n rows-long (up-long zero R ∙ rows-count n m costs)
         ∙ picked-same _ _ _ _ n (λ i h. refl) (λ i h. up-at zero R i (rw (rows-count n m costs) h) ∙ (let z : 0 + i ≡ i = omega arith in z))
 
     -- ---- its own table, of the table's costs
-    own-row : (i : ℕ) → i < n → strike (columnMask costs n m g) (getD R i []) ≡ picked C (λ j. getD costs (i * m + j) nan) m
+    own-row : (i : ℕ) → i < n → leftBy (columnMask costs n m g) (getD R i []) ≡ picked C (λ j. getD costs (i * m + j) nan) m
     own-row i h =
         let e = rows-at n m costs i h in
         let l : length (getD R i []) ≡ m = ap length e ∙ row-long finite nan refl i m costs (omega (arith, mul-le-mul-right m h, size)) in
-        strike-picked nan (columnMask costs n m g) (getD R i []) m columns-long l
+        left-picked nan (columnMask costs n m g) (getD R i []) m columns-long l
         ∙ picked-same _ _ _ _ m (λ j q. refl) (λ j q. ap (λ (r : List Float). getD r j nan) e ∙ getD-take m (drop (i * m) costs) j nan q ∙ getD-drop (i * m) costs j nan)
 
     pub own-table-is : ownTable costs n m g ≡ picked B (λ i. picked C (λ j. getD costs (i * m + j) nan) m) n
     own-table-is =
-        ap (map (strike (columnMask costs n m g))) (strike-picked [] (rowMask costs n m g) R n rows-long (rows-count n m costs))
-        ∙ picked-map (strike (columnMask costs n m g)) B (λ i. getD R i []) n
+        ap (map (leftBy (columnMask costs n m g))) (left-picked [] (rowMask costs n m g) R n rows-long (rows-count n m costs))
+        ∙ picked-map (leftBy (columnMask costs n m g)) B (λ i. getD R i []) n
         ∙ picked-same _ _ _ _ n (λ i h. refl) own-row
 
     pub table-long : length (ownTable costs n m g) ≡ height costs n m g

@@ -1,6 +1,6 @@
 -- What a mask strikes, as what a pass picks; what is put back by a mask; rows of a table.
 use mathlib.Core.Path.{_≡_, refl, sym, ap, ap₂, _∙_}
-use mathlib.Core.Bool.{Bool, true, false, cond, _||_, true≢false}
+use mathlib.Core.Bool.{Bool, true, false, cond, true≢false}
 use mathlib.Core.List.{List, [], _∷_}
 use Prim.Native.Nat.{ℕ, zero, suc, _+_, _*_, _≤_, _<_}
 use native.Mathlib.Decide.{ℕ-discrete}
@@ -10,43 +10,44 @@ use borrow.Author.Tests.{eq-eqb, ne-eqb}
 use lib.Dec.{eqb}
 use lib.ListN.{getD, length, take, drop}
 use lib.Seq.{take-all, drop-drop}
-use Rattle.kuhn_munkres.specs.Strike.{strike, spread, anyOf, upFrom}
+use Rattle.lists.specs.First.{any}
+use Rattle.lists.specs.Masks.{leftBy, spread, upFrom}
 use Rattle.kuhn_munkres.specs.Assignment.{rowsOf, same}
 use Rattle.groups.specs.Picks.{addIf, picked, ticks}
 use Rattle.groups.proofs.Picking.{ticks-some, some-tick, ticks-shift}
 
 -- ---- a mask's pick
-strike-take : {A : Type 0} (d : A) (k : List Bool) (l : List A) (n : ℕ) → n < length k → n < length l → strike (take (suc n) k) (take (suc n) l) ≡ addIf (getD k n false) (getD l n d) (strike (take n k) (take n l))
-unfolding strike
-strike-take d [] l n h g = absurd (omega arith)
-strike-take d (b ∷ k) [] n h g = absurd (omega arith)
-strike-take d (true ∷ k) (x ∷ l) zero h g = refl
-strike-take d (false ∷ k) (x ∷ l) zero h g = refl
-strike-take d (true ∷ k) (x ∷ l) (suc n) h g = ap (λ (t : List _). x ∷ t) (strike-take d k l n (omega arith) (omega arith)) ∙ out (getD k n false)
+left-take : {A : Type 0} (d : A) (k : List Bool) (l : List A) (n : ℕ) → n < length k → n < length l → leftBy (take (suc n) k) (take (suc n) l) ≡ addIf (getD k n false) (getD l n d) (leftBy (take n k) (take n l))
+unfolding leftBy
+left-take d [] l n h g = absurd (omega arith)
+left-take d (b ∷ k) [] n h g = absurd (omega arith)
+left-take d (true ∷ k) (x ∷ l) zero h g = refl
+left-take d (false ∷ k) (x ∷ l) zero h g = refl
+left-take d (true ∷ k) (x ∷ l) (suc n) h g = ap (λ (t : List _). x ∷ t) (left-take d k l n (omega arith) (omega arith)) ∙ out (getD k n false)
   where
-    out : (c : Bool) → x ∷ addIf c (getD l n d) (strike (take n k) (take n l)) ≡ addIf c (getD l n d) (x ∷ strike (take n k) (take n l))
+    out : (c : Bool) → x ∷ addIf c (getD l n d) (leftBy (take n k) (take n l)) ≡ addIf c (getD l n d) (x ∷ leftBy (take n k) (take n l))
     out true = refl
     out false = refl
-strike-take d (false ∷ k) (x ∷ l) (suc n) h g = strike-take d k l n (omega arith) (omega arith)
+left-take d (false ∷ k) (x ∷ l) (suc n) h g = left-take d k l n (omega arith) (omega arith)
 
-strike-upto : {A : Type 0} (d : A) (k : List Bool) (l : List A) (n : ℕ) → n ≤ length k → n ≤ length l → strike (take n k) (take n l) ≡ picked (λ i. getD k i false) (λ i. getD l i d) n
-unfolding picked strike
-strike-upto d k l zero h g = refl
-strike-upto d k l (suc n) h g = strike-take d k l n h g ∙ ap (addIf (getD k n false) (getD l n d)) (strike-upto d k l n (omega arith) (omega arith))
+left-upto : {A : Type 0} (d : A) (k : List Bool) (l : List A) (n : ℕ) → n ≤ length k → n ≤ length l → leftBy (take n k) (take n l) ≡ picked (λ i. getD k i false) (λ i. getD l i d) n
+unfolding picked leftBy
+left-upto d k l zero h g = refl
+left-upto d k l (suc n) h g = left-take d k l n h g ∙ ap (addIf (getD k n false) (getD l n d)) (left-upto d k l n (omega arith) (omega arith))
 
-pub strike-picked : {A : Type 0} (d : A) (k : List Bool) (l : List A) (n : ℕ) → length k ≡ n → length l ≡ n → strike k l ≡ picked (λ i. getD k i false) (λ i. getD l i d) n
-strike-picked d k l n h g = ap₂ (λ (a : List Bool) (b : List _). strike a b) (sym (take-all n k (rw h (omega arith)))) (sym (take-all n l (rw g (omega arith)))) ∙ strike-upto d k l n (rw h (omega arith)) (rw g (omega arith))
+pub left-picked : {A : Type 0} (d : A) (k : List Bool) (l : List A) (n : ℕ) → length k ≡ n → length l ≡ n → leftBy k l ≡ picked (λ i. getD k i false) (λ i. getD l i d) n
+left-picked d k l n h g = ap₂ (λ (a : List Bool) (b : List _). leftBy a b) (sym (take-all n k (rw h (omega arith)))) (sym (take-all n l (rw g (omega arith)))) ∙ left-upto d k l n (rw h (omega arith)) (rw g (omega arith))
 
 -- ---- a mask with something on it
-any-in : (k : List Bool) (i : ℕ) → getD k i false ≡ true → anyOf same k ≡ true
-unfolding anyOf
+any-in : (k : List Bool) (i : ℕ) → getD k i false ≡ true → any same k ≡ true
+unfolding any
 any-in [] i e = e
 any-in (true ∷ k) i e = refl
 any-in (false ∷ k) zero e = absurd (true≢false (sym e))
 any-in (false ∷ k) (suc i) e = any-in k i e
 
-pub any-out : (k : List Bool) → anyOf same k ≡ true → (i : ℕ) × (i < length k) × (getD k i false ≡ true)
-unfolding anyOf
+pub any-out : (k : List Bool) → any same k ≡ true → (i : ℕ) × (i < length k) × (getD k i false ≡ true)
+unfolding any
 any-out [] e = absurd (true≢false (sym e))
 any-out (true ∷ k) e = (0, omega arith, refl)
 any-out (false ∷ k) e = let r = any-out k e in let l = r .1 in (suc (r .0), omega arith, r .2)
@@ -55,14 +56,14 @@ pub not-true : (b : Bool) → (b ≡ true → ⊥) → b ≡ false
 not-true true f = absurd (f refl)
 not-true false f = refl
 
-pub any-off : (k : List Bool) → anyOf same k ≡ false → (i : ℕ) → getD k i false ≡ false
+pub any-off : (k : List Bool) → any same k ≡ false → (i : ℕ) → getD k i false ≡ false
 any-off k e i = not-true (getD k i false) (λ q. true≢false (sym (any-in k i q) ∙ e))
 
 module _ (k : List Bool) (m : ℕ → Bool) (n : ℕ) (long : length k ≡ n) (like : (i : ℕ) → i < n → getD k i false ≡ m i) where
-  pub any-none : ticks m n ≡ 0 → anyOf same k ≡ false
-  any-none e = not-true (anyOf same k) (λ q. let r = any-out k q in let l : r .0 < n = rw long at (r .1) in omega (arith, ticks-some m n (r .0) l (sym (like (r .0) l) ∙ r .2)))
+  pub any-none : ticks m n ≡ 0 → any same k ≡ false
+  any-none e = not-true (any same k) (λ q. let r = any-out k q in let l : r .0 < n = rw long at (r .1) in omega (arith, ticks-some m n (r .0) l (sym (like (r .0) l) ∙ r .2)))
 
-  pub any-some : (ticks m n ≡ 0 → ⊥) → anyOf same k ≡ true
+  pub any-some : (ticks m n ≡ 0 → ⊥) → any same k ≡ true
   any-some g = let r = some-tick m n (let h : 0 < ticks m n = omega (arith, g) in h) in any-in k (r .0) (like (r .0) (r .1) ∙ r .2)
 
 -- ---- putting back by a mask
@@ -112,11 +113,11 @@ unfolding upFrom
 up-long k [] = refl
 up-long k (x ∷ l) = ap suc (up-long (suc k) l)
 
-pub any-up : {A : Type 0} (k : ℕ) (l : List A) (g : ℕ) → k ≤ g → g < k + length l → anyOf (eqb g) (upFrom k l) ≡ true
-unfolding anyOf upFrom
+pub any-up : {A : Type 0} (k : ℕ) (l : List A) (g : ℕ) → k ≤ g → g < k + length l → any (eqb g) (upFrom k l) ≡ true
+unfolding any upFrom
 any-up k [] g h q = absurd (omega arith)
 any-up k (x ∷ l) g h q = go (ℕ-discrete g k) (λ f. any-up (suc k) l g f (omega arith))
   where
-    go : Dec (g ≡ k) → (suc k ≤ g → anyOf (eqb g) (upFrom (suc k) l) ≡ true) → (eqb g k || anyOf (eqb g) (upFrom (suc k) l)) ≡ true
+    go : Dec (g ≡ k) → (suc k ≤ g → any (eqb g) (upFrom (suc k) l) ≡ true) → cond (eqb g k) true (any (eqb g) (upFrom (suc k) l)) ≡ true
     go (yes e) ih = rw (eq-eqb g k e)
     go (no f) ih = rw (ne-eqb g k f) (ih (omega arith))

@@ -6,7 +6,7 @@ use lib.Dec.{eqb}
 use lib.ListN.{getD}
 use lib.Ieee.{Float}
 use lib.Ieee.Scale.{finite}
-use Rattle.kuhn_munkres.specs.Strike.{strike, upFrom}
+use Rattle.lists.specs.Masks.{leftBy, upFrom}
 use Rattle.kuhn_munkres.specs.Groups.{Labels, labels, isLabel}
 use Rattle.kuhn_munkres.specs.Assignment.{rowsOf}
 use Rattle.groups.specs.Picks.{picked, ticks}
@@ -46,7 +46,7 @@ module _ (costs : List Float) (n m : ℕ) where
     rowAt x = getD (picked rowIn (λ i. i) n) x 0
 
     abbrev pub ownTable : List (List Float)
-    ownTable = map (strike columnMask) (strike rowMask tableOf)
+    ownTable = map (leftBy columnMask) (leftBy rowMask tableOf)
 
     abbrev pub ownRows : List ℕ
-    ownRows = strike rowMask (upFrom zero tableOf)
+    ownRows = leftBy rowMask (upFrom zero tableOf)

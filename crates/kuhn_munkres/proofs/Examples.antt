@@ -9,7 +9,8 @@ use lib.Count.{trailingZeros}
 use Rattle.number.specs.Reply.{Reply, refused, given}
 use Rattle.kuhn_munkres.specs.Steps.{relax, scan, shiftAt, shift, mark, look, go-on, step, search, back, start, settle, fresh, enter, leave, rows}
 use Rattle.kuhn_munkres.specs.Square.{entry}
-use Rattle.kuhn_munkres.specs.Strike.{strike, spread, anyOf, upFrom, zipped}
+use Rattle.lists.specs.First.{any}
+use Rattle.lists.specs.Masks.{leftBy, spread, upFrom, zipped}
 use Rattle.kuhn_munkres.specs.Groups.{relabel, relabelled, hit, hits, joinedTo, join, joins, labels, isLabel}
 use Rattle.kuhn_munkres.specs.Assignment.{Pairs, Pair, rowsOf, inOne, largest, largestOf, sentinelOf, takerOf, takersIn, solved, named, bind, groupIn, groups, pairing, takersReply, columnOf, pairAt, freeAt, pairsFrom, freeRows, freeColumns, pairsOf, assignmentReply}
 
@@ -59,5 +60,5 @@ pub answered : asked ≡ (
     ∷ refused 10
     ∷ refused 10
     ∷ [])
-unfolding assignmentReply takersReply pairing groups groupIn solved takersIn takerOf named bind rowsOf inOne largest largestOf sentinelOf columnOf pairAt freeAt pairsFrom freeRows freeColumns pairsOf relabel relabelled hit hits joinedTo join joins labels isLabel strike spread anyOf upFrom zipped entry relax scan shiftAt shift mark look go-on step search back start settle fresh enter leave rows ofInt ofBits ofFields round add sub mul lt size units odd span climb trailingZeros sum neg
+unfolding assignmentReply takersReply pairing groups groupIn solved takersIn takerOf named bind rowsOf inOne largest largestOf sentinelOf columnOf pairAt freeAt pairsFrom freeRows freeColumns pairsOf relabel relabelled hit hits joinedTo join joins labels isLabel leftBy spread any upFrom zipped entry relax scan shiftAt shift mark look go-on step search back start settle fresh enter leave rows ofInt ofBits ofFields round add sub mul lt size units odd span climb trailingZeros sum neg
 answered = refl

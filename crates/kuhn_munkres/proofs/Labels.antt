@@ -1,7 +1,7 @@
 -- The labels name groups by their last rows: a label is a row of its own group, and no row of the group is after it. What a row's join does, place by place.
 use mathlib.Core.Path.{_≡_, refl, sym, ap, ap₂, _∙_, subst}
 use mathlib.Core.Logic.{_⊎_, inl, inr}
-use mathlib.Core.Bool.{Bool, true, false, cond, _||_, true≢false}
+use mathlib.Core.Bool.{Bool, true, false, cond, true≢false}
 use mathlib.Core.List.{List, [], _∷_, _++_, map}
 use mathlib.Core.Option.{Option, none, some}
 use Prim.Native.Nat.{ℕ, zero, suc, _+_, _*_, _≤_, _<_}
@@ -13,7 +13,8 @@ use borrow.Author.Tests.{eq-eqb, eqb-true}
 use lib.Dec.{eqb}
 use lib.ListN.{getD, length, take, drop, replicate, length-append, length-replicate, length-map, length-take, length-drop, List·getD-append, List·getD-map, List·getD-eq-default}
 use lib.Seq.{getD-append-seam, length-take-le, take-append-le, drop-drop}
-use Rattle.kuhn_munkres.specs.Strike.{anyOf, zipped}
+use Rattle.lists.specs.First.{any}
+use Rattle.lists.specs.Masks.{zipped}
 use Rattle.kuhn_munkres.specs.Groups.{Labels, relabel, relabelled, hit, hits, joinedTo, join, joins, alone, labels}
 use Rattle.kuhn_munkres.specs.Assignment.{rowsOf}
 
@@ -55,29 +56,29 @@ nones-at (suc w) (suc j) = nones-at w j
 
 -- ---- what a row touches
 module _ {F : Type 0} (finite : F → Bool) (d : F) (no-cost : finite d ≡ false) where
-  or-true : (b c : Bool) → c ≡ true → (b || c) ≡ true
+  or-true : (b c : Bool) → c ≡ true → cond b true c ≡ true
   or-true true c e = refl
   or-true false c e = e
 
-  pub hit-in : (row : List F) (cols : List (Option ℕ)) (j l : ℕ) → finite (getD row j d) ≡ true → getD cols j none ≡ some l → anyOf (eqb l) (hits finite row cols) ≡ true
-  unfolding hits hit anyOf
+  pub hit-in : (row : List F) (cols : List (Option ℕ)) (j l : ℕ) → finite (getD row j d) ≡ true → getD cols j none ≡ some l → any (eqb l) (hits finite row cols) ≡ true
+  unfolding hits hit any
   hit-in [] cols j l h e = absurd (true≢false (sym h ∙ no-cost))
   hit-in (x ∷ row) [] j l h e = none-some e
   hit-in (x ∷ row) (o ∷ cols) zero l h e = rw (h, e, eq-eqb l l refl)
   hit-in (x ∷ row) (o ∷ cols) (suc j) l h e = go (finite x) o (hit-in row cols j l h e)
     where
-      go : (b : Bool) (p : Option ℕ) → anyOf (eqb l) (hits finite row cols) ≡ true → anyOf (eqb l) (hit b p (hits finite row cols)) ≡ true
+      go : (b : Bool) (p : Option ℕ) → any (eqb l) (hits finite row cols) ≡ true → any (eqb l) (hit b p (hits finite row cols)) ≡ true
       go false p q = q
       go true none q = q
-      go true (some g) q = or-true (eqb l g) (anyOf (eqb l) (hits finite row cols)) q
+      go true (some g) q = or-true (eqb l g) (any (eqb l) (hits finite row cols)) q
 
   pub record Touching (row : List F) (cols : List (Option ℕ)) (l : ℕ) : Type 0 where
     pub at : ℕ
     pub allowed : finite (getD row at d) ≡ true
     pub label : getD cols at none ≡ some l
 
-  pub hit-out : (row : List F) (cols : List (Option ℕ)) (l : ℕ) → anyOf (eqb l) (hits finite row cols) ≡ true → Touching row cols l
-  unfolding hits hit anyOf
+  pub hit-out : (row : List F) (cols : List (Option ℕ)) (l : ℕ) → any (eqb l) (hits finite row cols) ≡ true → Touching row cols l
+  unfolding hits hit any
   hit-out [] cols l e = absurd (true≢false (sym e))
   hit-out (x ∷ row) [] l e = absurd (true≢false (sym e))
   hit-out (x ∷ row) (o ∷ cols) l e = go (finite x) o refl refl (hit-out row cols l) e
@@ -85,21 +86,21 @@ module _ {F : Type 0} (finite : F → Bool) (d : F) (no-cost : finite d ≡ fals
       later : Touching row cols l → Touching (x ∷ row) (o ∷ cols) l
       later t = record { at = suc (t .at); allowed = t .allowed; label = t .label }
 
-      first : (b : Bool) (g : ℕ) → finite x ≡ true → o ≡ some g → eqb l g ≡ b → (anyOf (eqb l) (hits finite row cols) ≡ true → Touching row cols l) → (b || anyOf (eqb l) (hits finite row cols)) ≡ true → Touching (x ∷ row) (o ∷ cols) l
+      first : (b : Bool) (g : ℕ) → finite x ≡ true → o ≡ some g → eqb l g ≡ b → (any (eqb l) (hits finite row cols) ≡ true → Touching row cols l) → cond b true (any (eqb l) (hits finite row cols)) ≡ true → Touching (x ∷ row) (o ∷ cols) l
       first true g h q r ih e' = record { at = zero; allowed = h; label = q ∙ ap some (sym (eqb-true l g r)) }
       first false g h q r ih e' = later (ih e')
 
-      go : (b : Bool) (p : Option ℕ) → finite x ≡ b → o ≡ p → (anyOf (eqb l) (hits finite row cols) ≡ true → Touching row cols l) → anyOf (eqb l) (hit b p (hits finite row cols)) ≡ true → Touching (x ∷ row) (o ∷ cols) l
+      go : (b : Bool) (p : Option ℕ) → finite x ≡ b → o ≡ p → (any (eqb l) (hits finite row cols) ≡ true → Touching row cols l) → any (eqb l) (hit b p (hits finite row cols)) ≡ true → Touching (x ∷ row) (o ∷ cols) l
       go false p h q ih e' = later (ih e')
       go true none h q ih e' = later (ih e')
       go true (some g) h q ih e' = first (eqb l g) g h q refl ih e'
 
   -- ---- one row
-  pub relabel-is : (hs : List ℕ) (i l : ℕ) → ((anyOf (eqb l) hs ≡ true) × (relabel hs i l ≡ i)) ⊎ ((anyOf (eqb l) hs ≡ false) × (relabel hs i l ≡ l))
+  pub relabel-is : (hs : List ℕ) (i l : ℕ) → ((any (eqb l) hs ≡ true) × (relabel hs i l ≡ i)) ⊎ ((any (eqb l) hs ≡ false) × (relabel hs i l ≡ l))
   unfolding relabel
-  relabel-is hs i l = go (anyOf (eqb l) hs) refl
+  relabel-is hs i l = go (any (eqb l) hs) refl
     where
-      go : (b : Bool) → anyOf (eqb l) hs ≡ b → ((anyOf (eqb l) hs ≡ true) × (cond (anyOf (eqb l) hs) i l ≡ i)) ⊎ ((anyOf (eqb l) hs ≡ false) × (cond (anyOf (eqb l) hs) i l ≡ l))
+      go : (b : Bool) → any (eqb l) hs ≡ b → ((any (eqb l) hs ≡ true) × (cond (any (eqb l) hs) i l ≡ i)) ⊎ ((any (eqb l) hs ≡ false) × (cond (any (eqb l) hs) i l ≡ l))
       go true e = inl (e, rw e)
       go false e = inr (e, rw e)
 
@@ -137,7 +138,7 @@ module _ {F : Type 0} (finite : F → Bool) (d : F) (no-cost : finite d ≡ fals
     own : (l : ℕ) → l < i → getD (s .ofRows) l 0 ≡ l → (relabel hs i l < suc i) × (getD (join finite i row s .ofRows) (relabel hs i l) 0 ≡ relabel hs i l)
     own l h e = go (relabel-is hs i l)
       where
-        go : ((anyOf (eqb l) hs ≡ true) × (relabel hs i l ≡ i)) ⊎ ((anyOf (eqb l) hs ≡ false) × (relabel hs i l ≡ l)) → (relabel hs i l < suc i) × (getD (join finite i row s .ofRows) (relabel hs i l) 0 ≡ relabel hs i l)
+        go : ((any (eqb l) hs ≡ true) × (relabel hs i l ≡ i)) ⊎ ((any (eqb l) hs ≡ false) × (relabel hs i l ≡ l)) → (relabel hs i l < suc i) × (getD (join finite i row s .ofRows) (relabel hs i l) 0 ≡ relabel hs i l)
         go (inl p) = rw (p .1) (omega arith, row-new)
         go (inr p) = (rw (p .1) (omega arith), ap (λ (k : ℕ). getD (join finite i row s .ofRows) k 0) (p .1) ∙ row-before l h ∙ ap (relabel hs i) e)
 
@@ -170,7 +171,7 @@ module _ {F : Type 0} (finite : F → Bool) (d : F) (no-cost : finite d ≡ fals
         up x h (yes e) = rw (e, row-new) (omega arith)
         up x h (no g) = let q : x < i = omega arith in rw (row-before x q) (by (relabel-is hs i (getD (s .ofRows) x 0)))
           where
-            by : ((anyOf (eqb (getD (s .ofRows) x 0)) hs ≡ true) × (relabel hs i (getD (s .ofRows) x 0) ≡ i)) ⊎ ((anyOf (eqb (getD (s .ofRows) x 0)) hs ≡ false) × (relabel hs i (getD (s .ofRows) x 0) ≡ getD (s .ofRows) x 0)) → x ≤ relabel hs i (getD (s .ofRows) x 0)
+            by : ((any (eqb (getD (s .ofRows) x 0)) hs ≡ true) × (relabel hs i (getD (s .ofRows) x 0) ≡ i)) ⊎ ((any (eqb (getD (s .ofRows) x 0)) hs ≡ false) × (relabel hs i (getD (s .ofRows) x 0) ≡ getD (s .ofRows) x 0)) → x ≤ relabel hs i (getD (s .ofRows) x 0)
             by (inl p) = rw (p .1) (omega arith)
             by (inr p) = rw (p .1) (n .row-up x (omega arith))
 

@@ -13,7 +13,8 @@ use Rattle.kuhn_munkres.specs.Ops.{Ops}
 use Rattle.kuhn_munkres.specs.Steps.{Search, found, stopped, spent, rows}
 use Rattle.kuhn_munkres.specs.Square.{Square, entry}
 use Rattle.kuhn_munkres.specs.Binary64.{float}
-use Rattle.kuhn_munkres.specs.Strike.{strike, spread, anyOf, upFrom}
+use Rattle.lists.specs.First.{any}
+use Rattle.lists.specs.Masks.{leftBy, spread, upFrom}
 use Rattle.kuhn_munkres.specs.Groups.{Labels, labels, isLabel}
 
 -- ---- the table
@@ -81,13 +82,13 @@ module _ {F : Type 0} (dense : List (List F) → Reply (List (Option ℕ))) wher
   -- one group, of the rows and columns that the masks name: nothing where it has no column
   unfoldable pub groupIn : Bool → List (List F) → List ℕ → List Bool → List Bool → List (Option ℕ) → Reply (List (Option ℕ))
   groupIn false rows names rm cm t = given t
-  groupIn true rows names rm cm t = bind (dense (map (strike cm) (strike rm rows))) (λ own. given (spread cm (map (named (strike rm names)) own) t))
+  groupIn true rows names rm cm t = bind (dense (map (leftBy cm) (leftBy rm rows))) (λ own. given (spread cm (map (named (leftBy rm names)) own) t))
 
   -- group after group, each put at its own columns
   unfoldable pub groups : List (List F) → Labels → List ℕ → List (Option ℕ) → Reply (List (Option ℕ))
   groups rows s [] t = given t
   groups rows s (g ∷ gs) t = let cm = map (isLabel g) (s .ofColumns) in
-      bind (groupIn (anyOf same cm) rows (upFrom zero rows) (map (eqb g) (s .ofRows)) cm t) (groups rows s gs)
+      bind (groupIn (any same cm) rows (upFrom zero rows) (map (eqb g) (s .ofRows)) cm t) (groups rows s gs)
 
 -- the row that takes each of n columns of a table, or none
 unfoldable pub pairing : Float → Float → List (List Float) → ℕ → Reply (List (Option ℕ))

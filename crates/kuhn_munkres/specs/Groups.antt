@@ -6,7 +6,8 @@ use mathlib.Core.Bool.{Bool, true, false, cond}
 use Prim.Native.Nat.{ℕ, zero, suc}
 use lib.ListN.{replicate}
 use lib.Dec.{eqb}
-use Rattle.kuhn_munkres.specs.Strike.{anyOf, zipped}
+use Rattle.lists.specs.First.{any}
+use Rattle.lists.specs.Masks.{zipped}
 
 -- The row that names each row's group, and each column's; a column that may pair with no row is in no group.
 pub record Labels : Type 0 where
@@ -15,7 +16,7 @@ pub record Labels : Type 0 where
 
 -- a group that the new row touches takes the new row's name
 unfoldable pub relabel : List ℕ → ℕ → ℕ → ℕ
-relabel hits i l = cond (anyOf (eqb l) hits) i l
+relabel hits i l = cond (any (eqb l) hits) i l
 
 unfoldable pub relabelled : List ℕ → ℕ → Option ℕ → Option ℕ
 relabelled hits i none = none

@@ -3,6 +3,5 @@ pub mod Steps
 pub mod Ranges
 pub mod Square
 pub mod Binary64
-pub mod Strike
 pub mod Groups
 pub mod Assignment

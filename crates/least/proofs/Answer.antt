@@ -20,7 +20,7 @@ use Rattle.whole.proofs.Values.{whole-finite}
 use Rattle.kuhn_munkres.specs.Binary64.{float}
 use Rattle.kuhn_munkres.specs.Square.{Square, entry}
 use Rattle.kuhn_munkres.specs.Steps.{State, found, rows}
-use Rattle.kuhn_munkres.specs.Strike.{upFrom}
+use Rattle.lists.specs.Masks.{upFrom}
 use Rattle.kuhn_munkres.specs.Groups.{labels}
 use Rattle.kuhn_munkres.specs.Assignment.{Pair, Pairs, rowsOf, solved, squareOf, larger, largestOf, sentinelOf, bind, groups, pairing, orElse, takersReply, pairsOf, assignmentReply}
 use Rattle.kuhn_munkres.proofs.Labels.{rows-count}

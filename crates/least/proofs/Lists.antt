@@ -13,7 +13,8 @@ use lib.ListN.{getD, length}
 use Rattle.whole.specs.Integer.{Integer, _+Z_, _≤Z_, _≈_, sum, times}
 use Rattle.whole.specs.Takers.{weightOf, weight, Takes, LeastTakes}
 use Rattle.whole.proofs.OneOne.{sum-same, sum-but}
-use Rattle.kuhn_munkres.specs.Strike.{Every, anyOf}
+use Rattle.lists.specs.First.{any}
+use Rattle.lists.specs.Masks.{Every}
 use Rattle.kuhn_munkres.specs.Assignment.{Pair, columnOf, pairAt, pairsFrom, pairsOf}
 use Rattle.kuhn_munkres.proofs.Labels.{none-some, some-same, some-in}
 use Rattle.kuhn_munkres.proofs.Columns.{column-takes, column-is}
@@ -78,31 +79,31 @@ taker-once (x ∷ l) j k i D e d = go (ℕ-discrete (x .column) j) (ℕ-discrete
     go (no y) (no z) ih = ih (sym (taker-there x l j y) ∙ e) (sym (taker-there x l k z) ∙ d)
 
 -- ---- how many are left
-any-out : (x : ℕ) (l : List ℕ) → Every (λ y. x ≡ y → ⊥) l → anyOf (eqb x) l ≡ false
-unfolding Every anyOf
+any-out : (x : ℕ) (l : List ℕ) → Every (λ y. x ≡ y → ⊥) l → any (eqb x) l ≡ false
+unfolding Every any
 any-out x [] h = refl
 any-out x (y ∷ l) h = rw (ne-eqb x y (h .0), any-out x l (h .1))
 
 left-of-none : (n : ℕ) → unmatched n [] ≡ n
-unfolding unmatched anyOf
+unfolding unmatched any
 left-of-none zero = refl
 left-of-none (suc n) = ap suc (left-of-none n)
 
 module _ (x : ℕ) (l : List ℕ) where
   left-beyond : (n : ℕ) → n ≤ x → unmatched n (x ∷ l) ≡ unmatched n l
-  unfolding unmatched anyOf
+  unfolding unmatched any
   left-beyond zero h = refl
   left-beyond (suc n) h = rw (ne-eqb n x (λ e. omega arith), left-beyond n (omega arith))
 
   -- one more that is not left
   left-more : (n : ℕ) → x < n → Every (λ y. x ≡ y → ⊥) l → unmatched n l ≡ suc (unmatched n (x ∷ l))
-  unfolding unmatched anyOf
+  unfolding unmatched any
   left-more zero h a = absurd (omega arith)
   left-more (suc n) h a = go (ℕ-discrete n x) (λ m. left-more n m a)
     where
       go : Dec (n ≡ x) → (x < n → unmatched n l ≡ suc (unmatched n (x ∷ l))) → unmatched (suc n) l ≡ suc (unmatched (suc n) (x ∷ l))
-      go (yes e) ih = unfold unmatched anyOf in rw (eq-eqb n x e, left-beyond n (omega arith), e, any-out x l a)
-      go (no d) ih = unfold unmatched anyOf in rw (ne-eqb n x d, ih (omega arith)) (by (anyOf (eqb n) l))
+      go (yes e) ih = unfold unmatched any in rw (eq-eqb n x e, left-beyond n (omega arith), e, any-out x l a)
+      go (no d) ih = unfold unmatched any in rw (ne-eqb n x d, ih (omega arith)) (by (any (eqb n) l))
         where
           by : (b : Bool) → cond b (suc (unmatched n (x ∷ l))) (suc (suc (unmatched n (x ∷ l)))) ≡ suc (cond b (unmatched n (x ∷ l)) (suc (unmatched n (x ∷ l))))
           by true = refl

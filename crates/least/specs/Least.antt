@@ -12,7 +12,8 @@ use lib.Ieee.Scale.{finite}
 use Rattle.number.specs.Reply.{Reply, given}
 use Rattle.whole.specs.Integer.{Integer, 0Z, _+Z_, _≤Z_, Within, times}
 use Rattle.whole.specs.Whole.{WholeValue}
-use Rattle.kuhn_munkres.specs.Strike.{Every, anyOf}
+use Rattle.lists.specs.First.{any}
+use Rattle.lists.specs.Masks.{Every}
 use Rattle.kuhn_munkres.specs.Assignment.{Pair, Pairs}
 
 -- ---- a pairing
@@ -43,7 +44,7 @@ costsOf cost (x ∷ l) = cost (x .row) (x .column) +Z costsOf cost l
 -- how many of the numbers below n do not stand in l
 unfoldable pub unmatched : ℕ → List ℕ → ℕ
 unmatched zero l = 0
-unmatched (suc n) l = cond (anyOf (eqb n) l) (unmatched n l) (suc (unmatched n l))
+unmatched (suc n) l = cond (any (eqb n) l) (unmatched n l) (suc (unmatched n l))
 
 unfoldable pub total : (ℕ → ℕ → Integer) → Integer → Integer → ℕ → ℕ → List Pair → Integer
 total cost row column n m l = costsOf cost l +Z times (unmatched n (rowsIn l)) row +Z times (unmatched m (columnsIn l)) column

@@ -15,7 +15,7 @@ use Rattle.number.proofs.Zeros.{both}
 use Rattle.whole.specs.Integer.{Integer, 0Z, Within, _≈_, _≤Z_}
 use Rattle.whole.specs.Whole.{WholeValue, wholeOf}
 use Rattle.whole.proofs.Values.{is-whole, whole-same}
-use Rattle.kuhn_munkres.specs.Strike.{Every}
+use Rattle.lists.specs.Masks.{Every}
 use Rattle.kuhn_munkres.specs.Assignment.{Pair, Pairs, inOne, orElse, assignmentReply}
 use Rattle.least.specs.Least.{Pairing, total, costAt, allowedIn, WholeCosts, LeastTotal, LeastOnWholes}
 use Rattle.least.proofs.Sentinel.{Ranged}

@@ -14,7 +14,7 @@ use lib.Ieee.Back.{round-whole}
 use lib.Ieee.Scale.{finite}
 use Rattle.whole.specs.Integer.{Integer, natural, negZ, Within}
 use Rattle.whole.specs.Whole.{WholeValue}
-use Rattle.kuhn_munkres.specs.Strike.{Every}
+use Rattle.lists.specs.Masks.{Every}
 use Rattle.least.proofs.Sentinel.{Ranged}
 use Rattle.forms.specs.Shape.{pastWord}
 use Rattle.forms.specs.Decimal.{limited, valueOf, naturalOf, minus, plus, decimalOf}

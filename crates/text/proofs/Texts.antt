@@ -12,7 +12,7 @@ use lib.ListN.{length, take, drop, getD, set, length-append, length-drop}
 use lib.Seq.{paste, paste-suc, paste-zero, length-paste, take-length, take-at, drop-drop, drop-append-add, take-suc, take-all}
 use Rattle.forms.specs.Bytes.{bytesOf}
 use Rattle.kuhn_munkres.specs.Assignment.{Pair, Pairs}
-use Rattle.kuhn_munkres.specs.Strike.{zipped}
+use Rattle.lists.specs.Masks.{zipped}
 use Rattle.assignment.specs.Listing.{pairOf}
 use Rattle.text.specs.Text.{lay, Wrote, Put, digitsOf, itemText, listText, pairText, pairsText, unmatchedText, refusedText, answerText, roomed}
 

@@ -2,7 +2,7 @@
 ghost use mathlib.Core.Path.{_≡_};
 ghost use Prim.Native.Nat.{_+_, _≤_, _<_, min};
 ghost use lib.ListN.{length, take};
-ghost use Rattle.kuhn_munkres.specs.Strike.{zipped};
+ghost use Rattle.lists.specs.Masks.{zipped};
 ghost use Rattle.assignment.specs.Listing.{pairOf, pairsIn};
 ghost use Rattle.text.specs.Text.{Put, Wrote, digitsOf, itemText, listText, pairText, pairsText, unmatchedText, refusedText, answerText, roomed};
 use assignment::Assignment;

@@ -3,7 +3,7 @@ use mathlib.Core.Path.{_≡_, refl, ap, sym, _∙_}
 use Prim.Native.Nat.{_≤_, _+_, _*_, _-_}
 use native.Mathlib.Omega.{arith}
 use lib.ListN.{take, getD, length}
-use Rattle.kuhn_munkres.specs.Strike.{zipped}
+use Rattle.lists.specs.Masks.{zipped}
 use Rattle.assignment.specs.Listing.{pairOf}
 use Rattle.text.specs.Text.{Put, pairsText}
 use Rattle.text.proofs.Texts.{put-none, put-same, put-then, pair-short, pairs-more, zipped-few}

@@ -5,8 +5,8 @@ use Prim.Native.Nat.{ℕ, _+_, _-_, _*_, _≤_, _<_}
 use lib.ListN.{length}
 use Rattle.assignment.specs.Taking.{takersOf}
 use Rattle.assignment.proofs.Listings.{Listing, listing-none, list-room, listing-pair, listing-free, listing-done}
-use Rattle.assignment.proofs.lists.list_rows.Statement.{statement}
-use Rattle.assignment.proofs.lists.list_rows.Tie as tie
+use Rattle.assignment.proofs.pair_lists.list_rows.Statement.{statement}
+use Rattle.assignment.proofs.pair_lists.list_rows.Tie as tie
 
 abbrev Inv-loop : tie.InvT-loop
 Inv-loop takers rows columns pair-rows₀ pair-columns₀ free₀ n₀ left₀ i₀ pair-rows pair-columns free n left i = (i ≤ rows) × Listing (takersOf columns takers) rows columns i pair-rows pair-columns free n left

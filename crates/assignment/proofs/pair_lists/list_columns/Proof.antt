@@ -5,8 +5,8 @@ use Prim.Native.Nat.{ℕ, _+_, _-_, _*_, _≤_, _<_}
 use lib.ListN.{length}
 use Rattle.assignment.proofs.Places.{turn-in, turn-less, turn-next, turn-room}
 use Rattle.assignment.proofs.Listings.{Freeing, freeing-none, free-room, freeing-skip, freeing-take, freeing-done}
-use Rattle.assignment.proofs.lists.list_columns.Statement.{statement}
-use Rattle.assignment.proofs.lists.list_columns.Tie as tie
+use Rattle.assignment.proofs.pair_lists.list_columns.Statement.{statement}
+use Rattle.assignment.proofs.pair_lists.list_columns.Tie as tie
 
 abbrev Inv-loop : tie.InvT-loop
 Inv-loop takers columns free₀ n₀ j₀ free n j = (j ≤ columns) × ((h : columns ≤ 64) (l : columns ≤ length takers) → Freeing columns takers h l j free n)

@@ -6,8 +6,8 @@ use lib.ListN.{length, drop}
 use Rattle.kuhn_munkres.specs.Assignment.{columnOf}
 use Rattle.assignment.specs.Taking.{takersOf}
 use Rattle.assignment.proofs.Listings.{column-here, column-next, column-none}
-use Rattle.assignment.proofs.lists.column_of.Statement.{statement}
-use Rattle.assignment.proofs.lists.column_of.Tie as tie
+use Rattle.assignment.proofs.pair_lists.column_of.Statement.{statement}
+use Rattle.assignment.proofs.pair_lists.column_of.Tie as tie
 
 abbrev Inv-loop : tie.InvT-loop
 Inv-loop takers columns i j₀ j = (j ≤ columns) × (columnOf i j (drop j (takersOf columns takers)) ≡ columnOf i 0 (takersOf columns takers))

@@ -2,15 +2,16 @@
 use mathlib.Core.List.{List, [], _∷_}
 use mathlib.Core.Path.{_≡_}
 use mathlib.Core.Option.{Option, none}
-use mathlib.Core.Bool.{Bool, true, false, _||_}
+use mathlib.Core.Bool.{Bool, true, false}
 use Prim.Native.Nat.{ℕ, zero, suc}
 
 module _ {A : Type 0} where
-  unfoldable pub strike : List Bool → List A → List A
-  strike [] l = []
-  strike (b ∷ k) [] = []
-  strike (true ∷ k) (x ∷ l) = x ∷ strike k l
-  strike (false ∷ k) (x ∷ l) = strike k l
+  -- What the mask leaves of a list: `true` stays. 01's "striking .. leaves".
+  unfoldable pub leftBy : List Bool → List A → List A
+  leftBy [] l = []
+  leftBy (b ∷ k) [] = []
+  leftBy (true ∷ k) (x ∷ l) = x ∷ leftBy k l
+  leftBy (false ∷ k) (x ∷ l) = leftBy k l
 
   -- the elements of l, in order, at the places of t that the mask names
   unfoldable pub spread : List Bool → List A → List A → List A
@@ -41,10 +42,6 @@ unfoldable pub count : List Bool → ℕ
 count [] = zero
 count (true ∷ k) = suc (count k)
 count (false ∷ k) = count k
-
-unfoldable pub anyOf : {A : Type 0} → (A → Bool) → List A → Bool
-anyOf p [] = false
-anyOf p (x ∷ l) = p x || anyOf p l
 
 -- k, k + 1, .., as many as the list has
 unfoldable pub upFrom : {A : Type 0} → ℕ → List A → List ℕ
