@@ -9,9 +9,9 @@ use native.Mathlib.Omega.{arith}
 use lib.ListN.{length, take, length-map}
 use lib.Ieee.{Float}
 use lib.Ieee.Scale.{finite}
-use Rattle.number.specs.Reply.{Reply, refused, given}
+use Rattle.number.specs.Reply.{Reply, refused, given, andThen}
 use Rattle.lists.specs.Masks.{zipped}
-use Rattle.kuhn_munkres.specs.Assignment.{Pair, Pairs, bind, rowsOf, pairing, pairsOf, takersReply, assignmentReply}
+use Rattle.kuhn_munkres.specs.Assignment.{Pair, Pairs, rowsOf, pairing, pairsOf, takersReply, assignmentReply}
 use Rattle.groups.proofs.Once.{pairing-sound}
 use Rattle.least.proofs.Answer.{assignment-least}
 use Rattle.assignment.specs.Listing.{padded, rowOf, columnIn, pairOf, assignmentOf, assignmentFor, pairsIn, Once, AssignmentAnswer}
@@ -75,19 +75,19 @@ module _ (costs : List Float) (n m : ℕ) (rowCost columnCost : Float) where
   unfolding assignmentReply
   once-all a e = go (takersReply costs n m rowCost columnCost) refl e
     where
-      go : (x : Reply (List (Option ℕ))) → takersReply costs n m rowCost columnCost ≡ x → bind (takersReply costs n m rowCost columnCost) (λ t. given (pairsOf n t)) ≡ given a → Once n m a
-      go (refused k) q w = let v : refused k ≡ given a = (unfold bind in (rw q at w)) in absurd (let z : _≡_ {A = ℕ} 0 1 = cc in omega arith)
+      go : (x : Reply (List (Option ℕ))) → takersReply costs n m rowCost columnCost ≡ x → andThen (takersReply costs n m rowCost columnCost) (λ t. given (pairsOf n t)) ≡ given a → Once n m a
+      go (refused k) q w = let v : refused k ≡ given a = (rw q at w) in absurd (let z : _≡_ {A = ℕ} 0 1 = cc in omega arith)
       go (given t) q w =
-          let v : given (pairsOf n t) ≡ given a = (unfold bind in (rw q at w)) in
+          let v : given (pairsOf n t) ≡ given a = (rw q at w) in
           let p = passed t (sym q) in
           let S = pairing-sound costs n m (p .rows-few) (p .columns-few) (p .size) rowCost columnCost t (p .is) in
           let z : pairsOf n t ≡ a = cc in
           subst (Once n m) z (each-once t n (S .low) (S .inj) m (S .long))
 
   pub answer-given : (t : List (Option ℕ)) (r : Assigned) → given t ≡ takersReply costs n m rowCost columnCost → r .outcome ≡ Given → r .assignment ≡ assignmentOf (pairsOf n t) → AssignmentAnswer costs n m rowCost columnCost r
-  unfolding assignmentReply bind
+  unfolding assignmentReply
   answer-given t r e o a =
-      let w : given (pairsOf n t) ≡ assignmentReply costs n m rowCost columnCost = ap (λ (x : Reply (List (Option ℕ))). bind x (λ y. given (pairsOf n y))) e in
+      let w : given (pairsOf n t) ≡ assignmentReply costs n m rowCost columnCost = ap (λ (x : Reply (List (Option ℕ))). andThen x (λ y. given (pairsOf n y))) e in
       record {
         is = ap₂ (λ (x : Outcome) (y : Assignment). replyOf x (pairsIn y)) o a ∙ ap given (holds (pairsOf n t)) ∙ w;
         whole = a ∙ ap assignmentFor w;
@@ -96,7 +96,7 @@ module _ (costs : List Float) (n m : ℕ) (rowCost columnCost : Float) where
       }
 
   pub answer-refused : (k : ℕ) (r : Assigned) → refused k ≡ takersReply costs n m rowCost columnCost → ((p : Pairs) → replyOf (r .outcome) p ≡ refused k) → r .assignment ≡ assignmentOf (record { pairs = []; rows = []; columns = [] }) → AssignmentAnswer costs n m rowCost columnCost r
-  unfolding assignmentReply bind
+  unfolding assignmentReply
   answer-refused k r e o a =
-      let w : refused k ≡ assignmentReply costs n m rowCost columnCost = ap (λ (x : Reply (List (Option ℕ))). bind x (λ y. given (pairsOf n y))) e in
+      let w : refused k ≡ assignmentReply costs n m rowCost columnCost = ap (λ (x : Reply (List (Option ℕ))). andThen x (λ y. given (pairsOf n y))) e in
       record { is = o (pairsIn (r .assignment)) ∙ w; whole = a ∙ ap assignmentFor w; once = once-all; least = assignment-least costs n m rowCost columnCost }

@@ -14,6 +14,7 @@ use lib.Ieee.{Float, nan}
 use lib.Ieee.Scale.{finite}
 use Rattle.lists.specs.First.{any}
 use Rattle.lists.specs.Masks.{leftBy, spread, upFrom}
+use Rattle.lists.proofs.Masks.{spread-long}
 use Rattle.kuhn_munkres.specs.Groups.{Labels, labels, isLabel}
 use Rattle.kuhn_munkres.specs.Assignment.{rowsOf, takerOf, named, same}
 use Rattle.kuhn_munkres.proofs.Labels.{Named, map-at}
@@ -21,7 +22,7 @@ use Rattle.groups.specs.Picks.{picked, ticks}
 use Rattle.groups.specs.Group.{tableOf, labelsOf, columnMask, rowMask, ownTable, ownRows}
 use Rattle.groups.proofs.Picking.{picked-long, picked-same, picked-all, ticks-le, ticks-same, ticks-some, ticks-below, some-tick}
 use Rattle.groups.proofs.Group.{labelled, columns-long, rows-are, own-table-is}
-use Rattle.groups.proofs.Masks.{any-none, any-some, spread-long, spread-at}
+use Rattle.groups.proofs.Masks.{any-none, any-some, spread-at}
 use Rattle.assignment.specs.Labelling.{rowOr, NamedBy}
 use Rattle.assignment.specs.Picks.{bears, groupTable}
 use Rattle.assignment.specs.Taking.{takerNumber, takersOf, Taken}

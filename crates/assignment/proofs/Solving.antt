@@ -12,14 +12,14 @@ use lib.ListN.{getD, length, take, drop}
 use lib.Seq.{drop-cons, drop-length}
 use lib.Ieee.{Float}
 use lib.Ieee.Scale.{finite}
-use Rattle.number.specs.Reply.{Reply, refused, given}
+use Rattle.number.specs.Reply.{Reply, refused, given, andThen}
 use Rattle.kuhn_munkres.specs.Binary64.{float}
 use Rattle.kuhn_munkres.specs.Square.{Square, entry}
 use Rattle.kuhn_munkres.specs.Steps.{State, Search, found, stopped, spent, rows}
 use Rattle.lists.specs.First.{any}
 use Rattle.lists.specs.Masks.{leftBy, spread, upFrom}
 use Rattle.kuhn_munkres.specs.Groups.{Labels, labels, isLabel}
-use Rattle.kuhn_munkres.specs.Assignment.{rowsOf, inOne, takerOf, takersIn, solved, squareOf, named, bind, groupIn, groups, same}
+use Rattle.kuhn_munkres.specs.Assignment.{rowsOf, inOne, takerOf, takersIn, solved, squareOf, named, groupIn, groups, same}
 use Rattle.kuhn_munkres.proofs.Kept.{AllFound, of-found, rows-long}
 use Rattle.kuhn_munkres.proofs.Labels.{rows-count}
 use Rattle.hungarian.specs.Ends.{endReply, runReply, replyOfRun}
@@ -126,23 +126,22 @@ module _ (costs : List Float) (n m : ℕ) (rowNames columnNames : List ℕ) (far
     any-column : any same cm ≡ true
     any-column = some-column costs n m rowNames columnNames (C .rows-few) (C .columns-few) (C .size) (C .named) g hg (λ z. c-some (c-is ∙ z))
 
-    group-is : (t : List (Option ℕ)) → groupIn dense (any same cm) R (upFrom zero R) rm cm t ≡ bind (takersIn Q X) (λ o. given (spread cm (map (named (leftBy rm (upFrom zero R))) o) t))
+    group-is : (t : List (Option ℕ)) → groupIn dense (any same cm) R (upFrom zero R) rm cm t ≡ andThen (takersIn Q X) (λ o. given (spread cm (map (named (leftBy rm (upFrom zero R))) o) t))
     unfolding groupIn
-    group-is t = ap (λ (b : Bool). groupIn dense b R (upFrom zero R) rm cm t) any-column ∙ ap (λ (y : Reply (List (Option ℕ))). bind y (λ o. given (spread cm (map (named (leftBy rm (upFrom zero R))) o) t))) dense-is
+    group-is t = ap (λ (b : Bool). groupIn dense b R (upFrom zero R) rm cm t) any-column ∙ ap (λ (y : Reply (List (Option ℕ))). andThen y (λ o. given (spread cm (map (named (leftBy rm (upFrom zero R))) o) t))) dense-is
 
     pub group-failed : (before : List ℕ) → length before ≡ 64 → refused 10 ≡ endReply X → GroupTaken costs n m far rowCost columnCost g false before before
-    unfolding bind
-    group-failed before l e = record { long = l; is = sym (group-is (takersOf m before) ∙ ap (λ (y : Reply (List (Option ℕ))). bind y (λ o. given (spread cm (map (named (leftBy rm (upFrom zero R))) o) (takersOf m before)))) (failed Q X e)) }
+    group-failed before l e = record { long = l; is = sym (group-is (takersOf m before) ∙ ap (λ (y : Reply (List (Option ℕ))). andThen y (λ o. given (spread cm (map (named (leftBy rm (upFrom zero R))) o) (takersOf m before)))) (failed Q X e)) }
 
     pub group-solved : (before after : List ℕ) (p : List ℕ) → length before ≡ 64 → given p ≡ endReply X → Taken columnNames g m p r members before after → GroupTaken costs n m far rowCost columnCost g true before after
-    unfolding bind takersIn
+    unfolding takersIn
     group-solved before after p l e t =
         let d = ended X p e in
         let long : length p ≡ 129 = ap length (sym (d .rows-are)) ∙ of-found float (λ (y : State Float). length (y .p) ≡ 129) X (d .s) (d .is) (rows-long float (entry float Q) (r + c) (r + c)) in
         let w : takersIn Q X ≡ given (map (takerOf r) (take c (drop 1 p))) = ap (takersIn Q) (d .is) ∙ ap (λ (y : List ℕ). given (map (takerOf r) (take c (drop 1 y)))) (d .rows-are) in
         record {
           long = t .long;
-          is = sym (group-is (takersOf m before) ∙ ap (λ (y : Reply (List (Option ℕ))). bind y (λ o. given (spread cm (map (named (leftBy rm (upFrom zero R))) o) (takersOf m before)))) w
+          is = sym (group-is (takersOf m before) ∙ ap (λ (y : Reply (List (Option ℕ))). andThen y (λ o. given (spread cm (map (named (leftBy rm (upFrom zero R))) o) (takersOf m before)))) w
               ∙ ap given (ap (λ (k : ℕ). spread cm (map (named (leftBy rm (upFrom zero R))) (map (takerOf r) (take k (drop 1 p)))) (takersOf m before)) c-is ∙ sym (taken-is costs n m rowNames columnNames (C .rows-few) (C .columns-few) (C .size) (C .named) g hg p long r members before after group-rows (G .members-are) (G .count) l t)));
         }
 
@@ -171,18 +170,16 @@ module _ (costs : List Float) (n m : ℕ) (far rowCost columnCost : Float) where
   going-first before l = record { long = l; rest = refl }
 
   next-groups : (g : ℕ) (t : List (Option ℕ)) → g < n → groups (ownReply far rowCost columnCost) R' s' (upFrom g (drop g R')) t
-      ≡ bind (groupIn (ownReply far rowCost columnCost) (any same (map (isLabel g) (s' .ofColumns))) R' (upFrom zero R') (map (eqb g) (s' .ofRows)) (map (isLabel g) (s' .ofColumns)) t) (groups (ownReply far rowCost columnCost) R' s' (upFrom (suc g) (drop (suc g) R')))
+      ≡ andThen (groupIn (ownReply far rowCost columnCost) (any same (map (isLabel g) (s' .ofColumns))) R' (upFrom zero R') (map (eqb g) (s' .ofRows)) (map (isLabel g) (s' .ofColumns)) t) (groups (ownReply far rowCost columnCost) R' s' (upFrom (suc g) (drop (suc g) R')))
   unfolding groups upFrom
   next-groups g t h = ap (λ (l : List (List Float)). groups (ownReply far rowCost columnCost) R' s' (upFrom g l) t) (drop-cons R' g [] (rw (rows-count n m costs) h))
 
   module _ (g : ℕ) (before now after : List ℕ) (h : g < n) (w : Going g before now) where
     pub going-next : GroupTaken costs n m far rowCost columnCost g true now after → Going (g + 1) before after
-    unfolding bind
-    going-next q = record { long = q .long; rest = rw (add-one g) (sym (next-groups g (takersOf m now) h ∙ ap (λ (y : Reply (List (Option ℕ))). bind y (groups (ownReply far rowCost columnCost) R' s' (upFrom (suc g) (drop (suc g) R')))) (sym (q .is))) ∙ w .rest) }
+    going-next q = record { long = q .long; rest = rw (add-one g) (sym (next-groups g (takersOf m now) h ∙ ap (λ (y : Reply (List (Option ℕ))). andThen y (groups (ownReply far rowCost columnCost) R' s' (upFrom (suc g) (drop (suc g) R')))) (sym (q .is))) ∙ w .rest) }
 
     pub going-stops : GroupTaken costs n m far rowCost columnCost g false now after → AllTaken costs n m far rowCost columnCost false before after
-    unfolding bind
-    going-stops q = record { long = q .long; is = sym (next-groups g (takersOf m now) h ∙ ap (λ (y : Reply (List (Option ℕ))). bind y (groups (ownReply far rowCost columnCost) R' s' (upFrom (suc g) (drop (suc g) R')))) (sym (q .is))) ∙ w .rest }
+    going-stops q = record { long = q .long; is = sym (next-groups g (takersOf m now) h ∙ ap (λ (y : Reply (List (Option ℕ))). andThen y (groups (ownReply far rowCost columnCost) R' s' (upFrom (suc g) (drop (suc g) R')))) (sym (q .is))) ∙ w .rest }
 
   pub going-done : (before after : List ℕ) → Going n before after → AllTaken costs n m far rowCost columnCost true before after
   unfolding groups upFrom

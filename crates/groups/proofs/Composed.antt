@@ -13,21 +13,22 @@ use lib.Dec.{eqb}
 use lib.ListN.{getD, length, replicate}
 use lib.Ieee.{Float, nan}
 use lib.Ieee.Scale.{finite}
-use Rattle.number.specs.Reply.{Reply, given}
+use Rattle.number.specs.Reply.{Reply, given, andThen}
 use Rattle.whole.specs.Integer.{Integer, 0Z, _-Z_, _≤Z_, _≈_, Within, sum}
 use Rattle.whole.specs.Whole.{WholeValue}
 use Rattle.whole.specs.Takers.{weightOf, Takes, LeastTakes}
 use Rattle.whole.proofs.OneOne.{sum-same}
 use Rattle.lists.specs.First.{any}
 use Rattle.lists.specs.Masks.{upFrom}
+use Rattle.lists.proofs.Masks.{any-off, any-up}
 use Rattle.kuhn_munkres.specs.Groups.{labels}
-use Rattle.kuhn_munkres.specs.Assignment.{rowsOf, named, bind, groupIn, groups, same}
+use Rattle.kuhn_munkres.specs.Assignment.{rowsOf, named, groupIn, groups, same}
 use Rattle.kuhn_munkres.proofs.Labels.{rows-count, none-some, some-same, some-in, nones-at}
 use Rattle.groups.specs.Picks.{ticks}
 use Rattle.groups.specs.Group.{tableOf, labelsOf, columnMask, rowMask, columnIn, rowIn, width, height, columnAt, rowAt, ownTable, ownRows}
 use Rattle.groups.specs.Solvers.{allows, Solves}
 use Rattle.groups.proofs.Picking.{picked-place, picked-ticks, ticks-le, ticks-below, ticks-inj}
-use Rattle.groups.proofs.Masks.{not-true, any-off, any-up}
+use Rattle.groups.proofs.Masks.{not-true}
 use Rattle.groups.proofs.Group.{labelled, column-label, label-column, label-row, some-row, rows-are, table-long, table-wide, table-at}
 use Rattle.groups.proofs.Once.{Good, Sound, put, put-at, In, from, group-sound, none-sound}
 use Rattle.groups.proofs.Joined.{joined-all}
@@ -227,7 +228,7 @@ module _ (costs : List Float) (n m : ℕ) (size : length costs ≡ n * m) (cost 
       kept : (k : ℕ) → LeastOn k t → LeastOn k u
 
     stepped : (g : ℕ) (t : List (Option ℕ)) → Sound costs n m t → May t → Stepped g t
-    unfolding groupIn bind
+    unfolding groupIn
     stepped g t S M = go (any same (columnMask costs n m g)) refl
       where
         solved : any same (columnMask costs n m g) ≡ true → Solved g → Stepped g t
@@ -258,14 +259,14 @@ module _ (costs : List Float) (n m : ℕ) (size : length costs ≡ n * m) (cost 
       least : (k : ℕ) → any (eqb k) gs ≡ true → LeastOn k u
 
     composed : (gs : List ℕ) (t : List (Option ℕ)) → Sound costs n m t → May t → Composed gs t
-    unfolding groups any bind
+    unfolding groups any
     composed [] t S M = record { u = t; is = refl; sound = S; may = M; kept = λ k L. L; least = λ k e. absurd (true≢false (sym e)) }
     composed (g ∷ gs) t S M = let s = stepped g t S M in go s (composed gs (s .u) (s .sound) (s .may))
       where
         go : (s : Stepped g t) → Composed gs (s .u) → Composed (g ∷ gs) t
         go s q = record {
           u = q .u;
-          is = ap (λ (y : Reply (List (Option ℕ))). bind y (groups dense R (labelsOf costs n m) gs)) (s .is) ∙ q .is;
+          is = ap (λ (y : Reply (List (Option ℕ))). andThen y (groups dense R (labelsOf costs n m) gs)) (s .is) ∙ q .is;
           sound = q .sound;
           may = q .may;
           kept = λ k L. q .kept k (s .kept k L);

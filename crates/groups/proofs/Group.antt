@@ -14,13 +14,14 @@ use lib.Ieee.{Float, nan}
 use lib.Ieee.Scale.{finite}
 use Rattle.lists.specs.First.{any}
 use Rattle.lists.specs.Masks.{leftBy, upFrom}
+use Rattle.lists.proofs.Masks.{any-out, up-at, up-long}
 use Rattle.kuhn_munkres.specs.Groups.{isLabel}
 use Rattle.kuhn_munkres.specs.Assignment.{same}
 use Rattle.kuhn_munkres.proofs.Labels.{Named, named-all, map-at, rows-count, row-long}
 use Rattle.groups.specs.Picks.{picked}
 use Rattle.groups.specs.Group.{tableOf, labelsOf, columnMask, rowMask, columnIn, rowIn, width, height, columnAt, rowAt, ownTable, ownRows}
 use Rattle.groups.proofs.Picking.{picked-long, picked-same, picked-map, picked-at, ticks-some}
-use Rattle.groups.proofs.Masks.{left-picked, any-out, rows-at, up-at, up-long}
+use Rattle.groups.proofs.Masks.{left-picked, rows-at}
 
 module _ (costs : List Float) (n m : ℕ) (size : length costs ≡ n * m) where
   abbrev R : List (List Float)

@@ -1,17 +1,15 @@
 -- What a mask strikes, as what a pass picks; what is put back by a mask; rows of a table.
 use mathlib.Core.Path.{_≡_, refl, sym, ap, ap₂, _∙_}
-use mathlib.Core.Bool.{Bool, true, false, cond, true≢false}
+use mathlib.Core.Bool.{Bool, true, false, cond}
 use mathlib.Core.List.{List, [], _∷_}
 use Prim.Native.Nat.{ℕ, zero, suc, _+_, _*_, _≤_, _<_}
-use native.Mathlib.Decide.{ℕ-discrete}
 use native.Mathlib.Nat.{suc-mul, zero-mul}
 use native.Mathlib.Omega.{arith}
-use borrow.Author.Tests.{eq-eqb, ne-eqb}
-use lib.Dec.{eqb}
 use lib.ListN.{getD, length, take, drop}
 use lib.Seq.{take-all, drop-drop}
 use Rattle.lists.specs.First.{any}
-use Rattle.lists.specs.Masks.{leftBy, spread, upFrom}
+use Rattle.lists.specs.Masks.{leftBy, spread}
+use Rattle.lists.proofs.Masks.{any-in, any-out}
 use Rattle.kuhn_munkres.specs.Assignment.{rowsOf, same}
 use Rattle.groups.specs.Picks.{addIf, picked, ticks}
 use Rattle.groups.proofs.Picking.{ticks-some, some-tick, ticks-shift}
@@ -39,25 +37,9 @@ pub left-picked : {A : Type 0} (d : A) (k : List Bool) (l : List A) (n : ℕ) �
 left-picked d k l n h g = ap₂ (λ (a : List Bool) (b : List _). leftBy a b) (sym (take-all n k (rw h (omega arith)))) (sym (take-all n l (rw g (omega arith)))) ∙ left-upto d k l n (rw h (omega arith)) (rw g (omega arith))
 
 -- ---- a mask with something on it
-any-in : (k : List Bool) (i : ℕ) → getD k i false ≡ true → any same k ≡ true
-unfolding any
-any-in [] i e = e
-any-in (true ∷ k) i e = refl
-any-in (false ∷ k) zero e = absurd (true≢false (sym e))
-any-in (false ∷ k) (suc i) e = any-in k i e
-
-pub any-out : (k : List Bool) → any same k ≡ true → (i : ℕ) × (i < length k) × (getD k i false ≡ true)
-unfolding any
-any-out [] e = absurd (true≢false (sym e))
-any-out (true ∷ k) e = (0, omega arith, refl)
-any-out (false ∷ k) e = let r = any-out k e in let l = r .1 in (suc (r .0), omega arith, r .2)
-
 pub not-true : (b : Bool) → (b ≡ true → ⊥) → b ≡ false
 not-true true f = absurd (f refl)
 not-true false f = refl
-
-pub any-off : (k : List Bool) → any same k ≡ false → (i : ℕ) → getD k i false ≡ false
-any-off k e i = not-true (getD k i false) (λ q. true≢false (sym (any-in k i q) ∙ e))
 
 module _ (k : List Bool) (m : ℕ → Bool) (n : ℕ) (long : length k ≡ n) (like : (i : ℕ) → i < n → getD k i false ≡ m i) where
   pub any-none : ticks m n ≡ 0 → any same k ≡ false
@@ -67,14 +49,6 @@ module _ (k : List Bool) (m : ℕ → Bool) (n : ℕ) (long : length k ≡ n) (l
   any-some g = let r = some-tick m n (let h : 0 < ticks m n = omega (arith, g) in h) in any-in k (r .0) (like (r .0) (r .1) ∙ r .2)
 
 -- ---- putting back by a mask
-pub spread-long : {A : Type 0} (k : List Bool) (l t : List A) → length k ≡ length t → length (spread k l t) ≡ length t
-unfolding spread
-spread-long [] l t e = refl
-spread-long (b ∷ k) l [] e = refl
-spread-long (true ∷ k) [] (o ∷ t) e = ap suc (spread-long k [] t (omega arith))
-spread-long (true ∷ k) (x ∷ l) (o ∷ t) e = ap suc (spread-long k l t (omega arith))
-spread-long (false ∷ k) l (o ∷ t) e = ap suc (spread-long k l t (omega arith))
-
 pub spread-at : {A : Type 0} (d : A) (k : List Bool) (l t : List A) (j : ℕ) → length k ≡ length t → j < length t → ticks (λ i. getD k i false) (length k) ≤ length l
     → getD (spread k l t) j d ≡ cond (getD k j false) (getD l (ticks (λ i. getD k i false) j) d) (getD t j d)
 unfolding spread
@@ -101,23 +75,3 @@ rows-at (suc n) w l zero h = rw (zero-mul w)
 rows-at (suc n) w l (suc i) h =
     let m : w + i * w ≡ suc i * w = omega (arith, suc-mul i w) in
     rows-at n w (drop w l) i (omega arith) ∙ ap (take w) (drop-drop (i * w) w l ∙ ap (λ (k : ℕ). drop k l) m)
-
-pub up-at : {A : Type 0} (k : ℕ) (l : List A) (i : ℕ) → i < length l → getD (upFrom k l) i 0 ≡ k + i
-unfolding upFrom
-up-at k [] i h = absurd (omega arith)
-up-at k (x ∷ l) zero h = omega arith
-up-at k (x ∷ l) (suc i) h = let r = up-at (suc k) l i (omega arith) in omega arith
-
-pub up-long : {A : Type 0} (k : ℕ) (l : List A) → length (upFrom k l) ≡ length l
-unfolding upFrom
-up-long k [] = refl
-up-long k (x ∷ l) = ap suc (up-long (suc k) l)
-
-pub any-up : {A : Type 0} (k : ℕ) (l : List A) (g : ℕ) → k ≤ g → g < k + length l → any (eqb g) (upFrom k l) ≡ true
-unfolding any upFrom
-any-up k [] g h q = absurd (omega arith)
-any-up k (x ∷ l) g h q = go (ℕ-discrete g k) (λ f. any-up (suc k) l g f (omega arith))
-  where
-    go : Dec (g ≡ k) → (suc k ≤ g → any (eqb g) (upFrom (suc k) l) ≡ true) → cond (eqb g k) true (any (eqb g) (upFrom (suc k) l)) ≡ true
-    go (yes e) ih = rw (eq-eqb g k e)
-    go (no f) ih = rw (ne-eqb g k f) (ih (omega arith))

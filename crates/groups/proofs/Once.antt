@@ -13,23 +13,24 @@ use lib.Seq.{getD-take, getD-drop, length-take-le}
 use lib.Ieee.{Float, nan, inf, fin, binary64, sub, add}
 use lib.Ieee.Scale.{finite}
 use Rattle.number.specs.Reply.{Reply, given}
+use Rattle.number.proofs.Replies.{given-same, bound}
 use Rattle.kuhn_munkres.specs.Binary64.{float}
 use Rattle.kuhn_munkres.specs.Square.{Square, entry}
 use Rattle.kuhn_munkres.specs.Steps.{State, Search, found, stopped, spent, rows}
 use Rattle.lists.specs.First.{any}
 use Rattle.lists.specs.Masks.{spread, upFrom}
+use Rattle.lists.proofs.Masks.{spread-long}
 use Rattle.kuhn_munkres.specs.Assignment.{rowsOf, takerOf, takersIn, solved, squareOf, named, groupIn, groups, same, pairing, sentinelOf, largestOf, larger}
 use Rattle.kuhn_munkres.proofs.Kept.{AllFound, rows-long}
 use Rattle.kuhn_munkres.proofs.Matched.{Matched, rows-matched}
 use Rattle.kuhn_munkres.proofs.Top.{top-stays}
 use Rattle.kuhn_munkres.proofs.Labels.{map-at, none-some, some-same, some-in, nones-at}
 use Rattle.kuhn_munkres.proofs.Columns.{taker-is}
-use Rattle.kuhn_munkres.proofs.FarColumns.{bound, given-same}
 use Rattle.groups.specs.Picks.{ticks}
 use Rattle.groups.specs.Group.{tableOf, labelsOf, columnMask, rowMask, columnIn, rowIn, width, height, rowAt, ownTable, ownRows}
 use Rattle.groups.specs.Solvers.{ownReply}
 use Rattle.groups.proofs.Picking.{Place, picked-place, ticks-le, ticks-below, ticks-inj}
-use Rattle.groups.proofs.Masks.{spread-at, spread-long}
+use Rattle.groups.proofs.Masks.{spread-at}
 use Rattle.groups.proofs.Group.{columns-long, column-label, label-column, row-label, some-row, rows-are, table-long, table-wide}
 
 -- ---- a group's own takers

@@ -12,7 +12,7 @@ use Rattle.kuhn_munkres.specs.Square.{entry}
 use Rattle.lists.specs.First.{any}
 use Rattle.lists.specs.Masks.{leftBy, spread, upFrom, zipped}
 use Rattle.kuhn_munkres.specs.Groups.{relabel, relabelled, hit, hits, joinedTo, join, joins, labels, isLabel}
-use Rattle.kuhn_munkres.specs.Assignment.{Pairs, Pair, rowsOf, inOne, largest, largestOf, sentinelOf, takerOf, takersIn, solved, named, bind, groupIn, groups, pairing, takersReply, columnOf, pairAt, freeAt, pairsFrom, freeRows, freeColumns, pairsOf, assignmentReply}
+use Rattle.kuhn_munkres.specs.Assignment.{Pairs, Pair, rowsOf, inOne, largest, largestOf, sentinelOf, takerOf, takersIn, solved, named, groupIn, groups, pairing, takersReply, columnOf, pairAt, freeAt, pairsFrom, freeRows, freeColumns, pairsOf, assignmentReply}
 
 abbrev pub f : ℕ → Float
 f n = ofInt binary64 (pos n)
@@ -60,5 +60,5 @@ pub answered : asked ≡ (
     ∷ refused 10
     ∷ refused 10
     ∷ [])
-unfolding assignmentReply takersReply pairing groups groupIn solved takersIn takerOf named bind rowsOf inOne largest largestOf sentinelOf columnOf pairAt freeAt pairsFrom freeRows freeColumns pairsOf relabel relabelled hit hits joinedTo join joins labels isLabel leftBy spread any upFrom zipped entry relax scan shiftAt shift mark look go-on step search back start settle fresh enter leave rows ofInt ofBits ofFields round add sub mul lt size units odd span climb trailingZeros sum neg
+unfolding assignmentReply takersReply pairing groups groupIn solved takersIn takerOf named rowsOf inOne largest largestOf sentinelOf columnOf pairAt freeAt pairsFrom freeRows freeColumns pairsOf relabel relabelled hit hits joinedTo join joins labels isLabel leftBy spread any upFrom zipped entry relax scan shiftAt shift mark look go-on step search back start settle fresh enter leave rows ofInt ofBits ofFields round add sub mul lt size units odd span climb trailingZeros sum neg
 answered = refl

@@ -7,7 +7,7 @@ use lib.ListN.{length, getD, take, drop, replicate}
 use lib.Dec.{eqb, ltb}
 use lib.Ieee.{Float, binary64, add, mul, lt, ofBits}
 use lib.Ieee.Scale.{finite}
-use Rattle.number.specs.Reply.{Reply, refused, given}
+use Rattle.number.specs.Reply.{Reply, refused, given, andThen}
 use Rattle.number.specs.Float.{absoluteOf}
 use Rattle.kuhn_munkres.specs.Ops.{Ops}
 use Rattle.kuhn_munkres.specs.Steps.{Search, found, stopped, spent, rows}
@@ -71,10 +71,6 @@ unfoldable pub named : List ℕ → Option ℕ → Option ℕ
 named names none = none
 named names (some i) = some (getD names i 0)
 
-unfoldable pub bind : {A B : Type 0} → Reply A → (A → Reply B) → Reply B
-bind (refused n) f = refused n
-bind (given a) f = f a
-
 abbrev pub same : Bool → Bool
 same b = b
 
@@ -82,13 +78,13 @@ module _ {F : Type 0} (dense : List (List F) → Reply (List (Option ℕ))) wher
   -- one group, of the rows and columns that the masks name: nothing where it has no column
   unfoldable pub groupIn : Bool → List (List F) → List ℕ → List Bool → List Bool → List (Option ℕ) → Reply (List (Option ℕ))
   groupIn false rows names rm cm t = given t
-  groupIn true rows names rm cm t = bind (dense (map (leftBy cm) (leftBy rm rows))) (λ own. given (spread cm (map (named (leftBy rm names)) own) t))
+  groupIn true rows names rm cm t = andThen (dense (map (leftBy cm) (leftBy rm rows))) (λ own. given (spread cm (map (named (leftBy rm names)) own) t))
 
   -- group after group, each put at its own columns
   unfoldable pub groups : List (List F) → Labels → List ℕ → List (Option ℕ) → Reply (List (Option ℕ))
   groups rows s [] t = given t
   groups rows s (g ∷ gs) t = let cm = map (isLabel g) (s .ofColumns) in
-      bind (groupIn (any same cm) rows (upFrom zero rows) (map (eqb g) (s .ofRows)) cm t) (groups rows s gs)
+      andThen (groupIn (any same cm) rows (upFrom zero rows) (map (eqb g) (s .ofRows)) cm t) (groups rows s gs)
 
 -- the row that takes each of n columns of a table, or none
 unfoldable pub pairing : Float → Float → List (List Float) → ℕ → Reply (List (Option ℕ))
@@ -150,4 +146,4 @@ pairsOf n t = record { pairs = pairsFrom t 0 n; rows = freeRows t 0 n; columns =
 
 -- what `linear_assignment` answers
 unfoldable pub assignmentReply : List Float → ℕ → ℕ → Float → Float → Reply Pairs
-assignmentReply costs n m rowCost columnCost = bind (takersReply costs n m rowCost columnCost) (λ t. given (pairsOf n t))
+assignmentReply costs n m rowCost columnCost = andThen (takersReply costs n m rowCost columnCost) (λ t. given (pairsOf n t))

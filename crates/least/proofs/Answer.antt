@@ -22,7 +22,7 @@ use Rattle.kuhn_munkres.specs.Square.{Square, entry}
 use Rattle.kuhn_munkres.specs.Steps.{State, found, rows}
 use Rattle.lists.specs.Masks.{upFrom}
 use Rattle.kuhn_munkres.specs.Groups.{labels}
-use Rattle.kuhn_munkres.specs.Assignment.{Pair, Pairs, rowsOf, solved, squareOf, larger, largestOf, sentinelOf, bind, groups, pairing, orElse, takersReply, pairsOf, assignmentReply}
+use Rattle.kuhn_munkres.specs.Assignment.{Pair, Pairs, rowsOf, solved, squareOf, larger, largestOf, sentinelOf, groups, pairing, orElse, takersReply, pairsOf, assignmentReply}
 use Rattle.kuhn_munkres.proofs.Labels.{rows-count}
 use Rattle.potentials.proofs.Square.{LeastSquare, square-least}
 use Rattle.groups.specs.Solvers.{allows, entryOf, Solves}
@@ -108,7 +108,7 @@ module _ (costs : List Float) (n m : ℕ) (rowCost columnCost : Float) (cost : �
       (solves far rowCost columnCost (F .0) row column (F .1) (F .2) (F .3) (W .row-is) (W .column-is)) (W .costs-are)
 
   answered : assignmentReply costs n m rowCost columnCost ≡ given (pairsOf n (takers .0))
-  unfolding assignmentReply takersReply pairing bind
+  unfolding assignmentReply takersReply pairing
   answered = rw (le-ltb 64 n (W .rows-few), le-ltb 64 m (W .columns-few), whole-finite rowCost row (W .row-is .0), whole-finite columnCost column (W .column-is .0), eq-eqb (length costs) (n * m) (W .size), takers .1)
 
   least-total : LeastTotal costs n m cost row column (assignmentReply costs n m rowCost columnCost)

@@ -3,7 +3,7 @@ use mathlib.Core.Path.{_≡_, refl, ap, sym, _∙_}
 use mathlib.Core.Bool.{Bool, true, false, cond, not, _&&_, _||_}
 use mathlib.Core.Option.{Option, none, some}
 use mathlib.Core.List.{List, [], _∷_, map}
-use Prim.Native.Nat.{ℕ, _+_, _*_, _<_, _≤_}
+use Prim.Native.Nat.{ℕ, zero, _+_, _*_, _<_, _≤_}
 use native.Mathlib.Omega.{arith}
 use native.Mathlib.Decide.{decLt}
 use borrow.Author.Tests.{eq-eqb, le-ltb, ltb-false}
@@ -11,12 +11,15 @@ use lib.Dec.{eqb, ltb}
 use lib.ListN.{length}
 use lib.Ieee.Scale.{finite}
 use lib.Ieee.{Float, binary64, ofBits}
-use Rattle.number.specs.Reply.{Reply, refused, given}
+use Rattle.number.specs.Reply.{Reply, refused, given, andThen}
+use Rattle.number.proofs.Replies.{never-given}
+use Rattle.lists.specs.First.{any}
+use Rattle.lists.specs.Masks.{leftBy, upFrom}
 use Rattle.kuhn_munkres.specs.Groups.{Labels, isLabel}
 use Rattle.kuhn_munkres.specs.Ops.{Ops}
 use Rattle.kuhn_munkres.specs.Square.{Square, entry}
 use Rattle.kuhn_munkres.specs.Steps.{Search, found, stopped, spent, rows}
-use Rattle.kuhn_munkres.specs.Assignment.{Pairs, inOne, orElse, bind, rowsOf, groupIn, groups, takersIn, solved, pairing, takersReply, assignmentReply}
+use Rattle.kuhn_munkres.specs.Assignment.{Pairs, inOne, orElse, rowsOf, same, groupIn, groups, takersIn, solved, pairing, takersReply, assignmentReply}
 use Rattle.assignment.specs.Listing.{rowOf, columnIn, times, Once}
 use Rattle.assignment.proofs.Answers.{once-all}
 use Rattle.request.specs.Request.{Request, requestOf, shaped}
@@ -51,24 +54,21 @@ once-named n m a h g o =
       columns = once-below m (a .columns) g (λ x. omega (arith, o .columns-once x));
     }
 
-never : {A B : Type 0} (n : ℕ) (a : A) → refused n ≡ given a → B
-never n a e = absurd (let z : _≡_ {A = ℕ} 0 1 = cc in omega arith)
-
 pub answer-named : (l : List ℕ) (a : Pairs) → replyTo l ≡ given a → Named a
 unfolding replyTo decided
 answer-named l a e = shape (formed l) (requestOf l) e
   where
     answered : (q : Request) (r c s : Bool) → ltb 64 (q .sizes .rows) ≡ r → ltb 64 (q .sizes .columns) ≡ c
         → orElse (r || c) 11 (orElse (not s) 10 (assignmentReply (inOne (q .table)) (q .sizes .rows) (q .sizes .columns) (q .sizes .cost) (ofBits binary64 0))) ≡ given a → Named a
-    answered q true c s f g e = never 11 a e
-    answered q false true s f g e = never 11 a e
-    answered q false false false f g e = never 10 a e
+    answered q true c s f g e = never-given 11 a e
+    answered q false true s f g e = never-given 11 a e
+    answered q false false false f g e = never-given 10 a e
     answered q false false true f g e = once-named (q .sizes .rows) (q .sizes .columns) a (ltb-false 64 (q .sizes .rows) f) (ltb-false 64 (q .sizes .columns) g)
         (once-all (inOne (q .table)) (q .sizes .rows) (q .sizes .columns) (q .sizes .cost) (ofBits binary64 0) a e)
 
     shape : (b : Bool) (o : Option Request) → orElse (not b) 13 (decided o) ≡ given a → Named a
-    shape false o e = never 13 a e
-    shape true none e = never 13 a e
+    shape false o e = never-given 13 a e
+    shape true none e = never-given 13 a e
     shape true (some q) e = answered q (ltb 64 (q .sizes .rows)) (ltb 64 (q .sizes .columns)) (shaped q) refl refl e
 
 -- ---- a refusal: 13, 11, 10 or 9
@@ -76,12 +76,11 @@ small : {A : Type 0} (n k : ℕ) → n < 100 → _≡_ {A = Reply A} (refused n)
 small n k h e = let z : n ≡ k = cc in omega arith
 
 given-small : {A : Type 0} (k : ℕ) (a : A) → given a ≡ refused k → k < 100
-given-small k a e = never k a (sym e)
+given-small k a e = never-given k a (sym e)
 
-bind-small : {A B : Type 0} (k : ℕ) (x : Reply A) (f : A → Reply B) → ((n : ℕ) → x ≡ refused n → n < 100) → ((a : A) → x ≡ given a → f a ≡ refused k → k < 100) → bind x f ≡ refused k → k < 100
-unfolding bind
-bind-small k (refused n) f h g e = small n k (h n refl) e
-bind-small k (given a) f h g e = g a refl e
+then-small : {A B : Type 0} (k : ℕ) (x : Reply A) (f : A → Reply B) → ((n : ℕ) → x ≡ refused n → n < 100) → ((a : A) → x ≡ given a → f a ≡ refused k → k < 100) → andThen x f ≡ refused k → k < 100
+then-small k (refused n) f h g e = small n k (h n refl) e
+then-small k (given a) f h g e = g a refl e
 
 solved-small : {N : Type 0} (O : Ops N) (q : Square N) (k : ℕ) → solved O q ≡ refused k → k < 100
 unfolding solved takersIn
@@ -96,16 +95,18 @@ module _ {F : Type 0} (dense : List (List F) → Reply (List (Option ℕ))) (own
   group-small : (b : Bool) (table : List (List F)) (names : List ℕ) (rm cm : List Bool) (t : List (Option ℕ)) (k : ℕ) → groupIn dense b table names rm cm t ≡ refused k → k < 100
   unfolding groupIn
   group-small false table names rm cm t k e = given-small k t e
-  group-small true table names rm cm t k e = bind-small k _ _ (own _) (λ a q f. given-small k _ f) e
+  group-small true table names rm cm t k e = then-small k (dense (map (leftBy cm) (leftBy rm table))) _ (own _) (λ a q f. given-small k _ f) e
 
   groups-small : (table : List (List F)) (s : Labels) (gs : List ℕ) (t : List (Option ℕ)) (k : ℕ) → groups dense table s gs t ≡ refused k → k < 100
   unfolding groups
   groups-small table s [] t k e = given-small k t e
-  groups-small table s (g ∷ gs) t k e = bind-small k _ _ (λ n q. group-small _ table _ _ _ t n q) (λ u q f. groups-small table s gs u k f) e
+  groups-small table s (g ∷ gs) t k e =
+      let cm = map (isLabel g) (s .ofColumns) in
+      then-small k (groupIn dense (any same cm) table (upFrom zero table) (map (eqb g) (s .ofRows)) cm t) _ (λ n q. group-small (any same cm) table (upFrom zero table) (map (eqb g) (s .ofRows)) cm t n q) (λ u q f. groups-small table s gs u k f) e
 
 call-small : (costs : List Float) (n m : ℕ) (rowCost columnCost : Float) (k : ℕ) → assignmentReply costs n m rowCost columnCost ≡ refused k → k < 100
 unfolding assignmentReply takersReply pairing
-call-small costs n m rowCost columnCost k e = bind-small k _ _ (λ j. go j (ltb 64 n || ltb 64 m) (not (finite rowCost && finite columnCost)) (not (eqb (length costs) (n * m)))) (λ a q f. given-small k _ f) e
+call-small costs n m rowCost columnCost k e = then-small k (takersReply costs n m rowCost columnCost) _ (λ j. go j (ltb 64 n || ltb 64 m) (not (finite rowCost && finite columnCost)) (not (eqb (length costs) (n * m)))) (λ a q f. given-small k _ f) e
   where
     go : (j : ℕ) (a b c : Bool) → orElse a 11 (orElse b 9 (orElse c 10 (pairing rowCost columnCost (rowsOf n m costs) m))) ≡ refused j → j < 100
     go j true b c e = small 11 j (omega arith) e

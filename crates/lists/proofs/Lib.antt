@@ -4,3 +4,7 @@ pub mod Sifting
 pub mod Loops
 pub mod Sames
 pub mod Tables
+pub mod Masks
+pub mod Each
+pub mod Stepping
+pub mod Weeding

@@ -8,8 +8,8 @@ use native.Mathlib.Omega.{arith}
 use borrow.Author.Tests.{lt-ltb, le-ltb}
 use lib.ListN.{length}
 use lib.Ieee.{Float}
-use Rattle.number.specs.Reply.{Reply, refused, given, codeOf}
-use Rattle.kuhn_munkres.specs.Assignment.{Pairs, bind, pairsOf, pairsFrom, orElse, takersReply, assignmentReply}
+use Rattle.number.specs.Reply.{Reply, refused, given, codeOf, andThen}
+use Rattle.kuhn_munkres.specs.Assignment.{Pairs, pairsOf, pairsFrom, orElse, takersReply, assignmentReply}
 use Rattle.least.specs.Least.{LeastOnWholes}
 use Rattle.least.proofs.Answer.{assignment-least}
 use Rattle.assignment.specs.Listing.{padded, rowOf, columnIn, assignmentOf, assignmentFor, pairsIn, AssignmentAnswer}
@@ -33,10 +33,10 @@ module _ (costs : List Float) (n m : ℕ) (rowCost columnCost : Float) where
     rows-few : n ≤ 64
 
   answered : (a : Pairs) → given a ≡ reply → Answered a
-  unfolding assignmentReply bind
+  unfolding assignmentReply
   answered a e = go (takersReply costs n m rowCost columnCost) refl e
     where
-      go : (x : Reply (List (Option ℕ))) → x ≡ takersReply costs n m rowCost columnCost → given a ≡ bind x (λ t. given (pairsOf n t)) → Answered a
+      go : (x : Reply (List (Option ℕ))) → x ≡ takersReply costs n m rowCost columnCost → given a ≡ andThen x (λ t. given (pairsOf n t)) → Answered a
       go (refused k) q w = absurd (let z : _≡_ {A = ℕ} 0 1 = cc in omega arith)
       go (given t) q w = record { takers = t; is = cc; rows-few = few costs n m rowCost columnCost t q .0 }
 
