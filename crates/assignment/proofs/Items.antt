@@ -18,7 +18,8 @@ use lib.Ieee.Scale.{finite}
 use Rattle.lists.specs.First.{any}
 use Rattle.kuhn_munkres.specs.Groups.{Labels, hits, relabel, relabelled, joinedTo, join, labels, joins, alone}
 use Rattle.kuhn_munkres.specs.Assignment.{rowsOf}
-use Rattle.kuhn_munkres.proofs.Labels.{nones-at, Named, Touching, named-all, labels-snoc, row-long, hit-in, hit-out, row-before, row-new, col-new, col-beyond, named-join}
+use Rattle.kuhn_munkres.proofs.Rows.{row-long}
+use Rattle.kuhn_munkres.proofs.Labels.{nones-at, Named, Touching, named-all, labels-snoc, hit-in, hit-out, row-before, row-new, col-new, col-beyond, named-join}
 use Rattle.groups.proofs.Masks.{not-true}
 use Rattle.assignment.specs.Forest.{Forest, Labelled, Ranked}
 use Rattle.assignment.specs.Labelling.{allowedAt, touched, rowLabel, Roomy, RowJoined, orItem, itemLabel, Alone, Grouped}
@@ -90,7 +91,7 @@ module _ (n m : ℕ) (costs : List Float) (i : ℕ) (hi : i < n) (fits : suc i *
   N = named-all finite nan refl i m costs (omega (arith, suc-mul i m))
 
   long : length row ≡ m
-  long = row-long finite nan refl i m costs fits
+  long = row-long i m costs fits
 
   abbrev A : ℕ → Bool
   A j = allowedAt costs (i * m) j

@@ -21,7 +21,7 @@ use Rattle.lists.specs.Masks.{leftBy, spread, upFrom}
 use Rattle.kuhn_munkres.specs.Groups.{Labels, labels, isLabel}
 use Rattle.kuhn_munkres.specs.Assignment.{rowsOf, inOne, takerOf, takersIn, solved, squareOf, named, groupIn, groups, same}
 use Rattle.kuhn_munkres.proofs.Kept.{AllFound, of-found, rows-long}
-use Rattle.kuhn_munkres.proofs.Labels.{rows-count}
+use Rattle.kuhn_munkres.proofs.Rows.{rows-count}
 use Rattle.hungarian.specs.Ends.{endReply, runReply, replyOfRun}
 use Rattle.hungarian.specs.Structs.{squareFrom}
 use Rattle.hungarian.specs.declared.Run.{Run}

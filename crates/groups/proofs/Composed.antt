@@ -23,7 +23,8 @@ use Rattle.lists.specs.Masks.{upFrom}
 use Rattle.lists.proofs.Masks.{any-off, any-up}
 use Rattle.kuhn_munkres.specs.Groups.{labels}
 use Rattle.kuhn_munkres.specs.Assignment.{rowsOf, named, groupIn, groups, same}
-use Rattle.kuhn_munkres.proofs.Labels.{rows-count, none-some, some-same, some-in, nones-at}
+use Rattle.kuhn_munkres.proofs.Rows.{rows-count}
+use Rattle.kuhn_munkres.proofs.Labels.{none-some, some-same, some-in, nones-at}
 use Rattle.groups.specs.Picks.{ticks}
 use Rattle.groups.specs.Group.{tableOf, labelsOf, columnMask, rowMask, columnIn, rowIn, width, height, columnAt, rowAt, ownTable, ownRows}
 use Rattle.groups.specs.Solvers.{allows, Solves}

@@ -17,11 +17,12 @@ use Rattle.lists.specs.Masks.{leftBy, upFrom}
 use Rattle.lists.proofs.Masks.{any-out, up-at, up-long}
 use Rattle.kuhn_munkres.specs.Groups.{isLabel}
 use Rattle.kuhn_munkres.specs.Assignment.{same}
-use Rattle.kuhn_munkres.proofs.Labels.{Named, named-all, map-at, rows-count, row-long}
+use Rattle.kuhn_munkres.proofs.Rows.{rows-count, rows-at, row-long}
+use Rattle.kuhn_munkres.proofs.Labels.{Named, named-all, map-at}
 use Rattle.groups.specs.Picks.{picked}
 use Rattle.groups.specs.Group.{tableOf, labelsOf, columnMask, rowMask, columnIn, rowIn, width, height, columnAt, rowAt, ownTable, ownRows}
 use Rattle.groups.proofs.Picking.{picked-long, picked-same, picked-map, picked-at, ticks-some}
-use Rattle.groups.proofs.Masks.{left-picked, rows-at}
+use Rattle.groups.proofs.Masks.{left-picked}
 
 module _ (costs : List Float) (n m : ℕ) (size : length costs ≡ n * m) where
   abbrev R : List (List Float)
@@ -78,7 +79,7 @@ module _ (costs : List Float) (n m : ℕ) (size : length costs ≡ n * m) where
     own-row : (i : ℕ) → i < n → leftBy (columnMask costs n m g) (getD R i []) ≡ picked C (λ j. getD costs (i * m + j) nan) m
     own-row i h =
         let e = rows-at n m costs i h in
-        let l : length (getD R i []) ≡ m = ap length e ∙ row-long finite nan refl i m costs (omega (arith, mul-le-mul-right m h, size)) in
+        let l : length (getD R i []) ≡ m = ap length e ∙ row-long i m costs (omega (arith, mul-le-mul-right m h, size)) in
         left-picked nan (columnMask costs n m g) (getD R i []) m columns-long l
         ∙ picked-same _ _ _ _ m (λ j q. refl) (λ j q. ap (λ (r : List Float). getD r j nan) e ∙ getD-take m (drop (i * m) costs) j nan q ∙ getD-drop (i * m) costs j nan)
 

@@ -12,7 +12,8 @@ use lib.ListN.{getD, length, take, drop}
 use lib.Seq.{getD-take, getD-drop}
 use Rattle.kuhn_munkres.specs.Groups.{Labels, relabel, joinedTo, relabelled, join, labels}
 use Rattle.kuhn_munkres.specs.Assignment.{rowsOf}
-use Rattle.kuhn_munkres.proofs.Labels.{Named, named-all, hs, row-before, row-new, col-new, hit-in, relabel-is, labels-snoc, row-long}
+use Rattle.kuhn_munkres.proofs.Rows.{row-long}
+use Rattle.kuhn_munkres.proofs.Labels.{Named, named-all, hs, row-before, row-new, col-new, hit-in, relabel-is, labels-snoc}
 
 module _ {F : Type 0} (finite : F → Bool) (d : F) (no-cost : finite d ≡ false) where
   -- among the first n rows
@@ -58,4 +59,4 @@ module _ {F : Type 0} (finite : F → Bool) (d : F) (no-cost : finite d ≡ fals
       under x p = omega arith
   joined-all (suc n) w l q =
       let few : n * w ≤ length l = omega (arith, suc-mul n w) in
-      rw (labels-snoc finite d no-cost n w l) (joined-join n w l (labels finite (rowsOf n w l) w) (named-all finite d no-cost n w l few) (joined-all n w l few) (row-long finite d no-cost n w l q))
+      rw (labels-snoc finite d no-cost n w l) (joined-join n w l (labels finite (rowsOf n w l) w) (named-all finite d no-cost n w l few) (joined-all n w l few) (row-long n w l q))

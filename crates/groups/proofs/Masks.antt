@@ -1,16 +1,15 @@
--- What a mask strikes, as what a pass picks; what is put back by a mask; rows of a table.
+-- What a mask leaves, as what a pass picks; a mask with no tick; what is put back by a mask, by its ticks.
 use mathlib.Core.Path.{_≡_, refl, sym, ap, ap₂, _∙_}
 use mathlib.Core.Bool.{Bool, true, false, cond}
 use mathlib.Core.List.{List, [], _∷_}
-use Prim.Native.Nat.{ℕ, zero, suc, _+_, _*_, _≤_, _<_}
-use native.Mathlib.Nat.{suc-mul, zero-mul}
+use Prim.Native.Nat.{ℕ, zero, suc, _≤_, _<_}
 use native.Mathlib.Omega.{arith}
-use lib.ListN.{getD, length, take, drop}
-use lib.Seq.{take-all, drop-drop}
+use lib.ListN.{getD, length, take}
+use lib.Seq.{take-all}
 use Rattle.lists.specs.First.{any}
 use Rattle.lists.specs.Masks.{leftBy, spread}
 use Rattle.lists.proofs.Masks.{any-in, any-out}
-use Rattle.kuhn_munkres.specs.Assignment.{rowsOf, same}
+use Rattle.kuhn_munkres.specs.Assignment.{same}
 use Rattle.groups.specs.Picks.{addIf, picked, ticks}
 use Rattle.groups.proofs.Picking.{ticks-some, some-tick, ticks-shift}
 
@@ -66,12 +65,3 @@ spread-at d (false ∷ k) l (o ∷ t) (suc j) e h q =
     let s = ticks-shift (λ i. getD (false ∷ k) i false) j in
     let w : ticks (λ i. getD (false ∷ k) i false) (suc j) ≡ ticks (λ i. getD k i false) j = omega (arith, s) in
     spread-at d k l t j (omega arith) (omega arith) (omega (arith, q, ticks-shift (λ i. getD (false ∷ k) i false) (length k))) ∙ rw w
-
--- ---- rows of a table
-pub rows-at : {F : Type 0} (n w : ℕ) (l : List F) (i : ℕ) → i < n → getD (rowsOf n w l) i [] ≡ take w (drop (i * w) l)
-unfolding rowsOf
-rows-at zero w l i h = absurd (omega arith)
-rows-at (suc n) w l zero h = rw (zero-mul w)
-rows-at (suc n) w l (suc i) h =
-    let m : w + i * w ≡ suc i * w = omega (arith, suc-mul i w) in
-    rows-at n w (drop w l) i (omega arith) ∙ ap (take w) (drop-drop (i * w) w l ∙ ap (λ (k : ℕ). drop k l) m)

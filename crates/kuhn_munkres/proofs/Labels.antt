@@ -1,38 +1,25 @@
 -- The labels name groups by their last rows: a label is a row of its own group, and no row of the group is after it. What a row's join does, place by place.
-use mathlib.Core.Path.{_≡_, refl, sym, ap, ap₂, _∙_, subst}
+use mathlib.Core.Path.{_≡_, refl, sym, ap, _∙_, subst}
 use mathlib.Core.Logic.{_⊎_, inl, inr}
 use mathlib.Core.Bool.{Bool, true, false, cond, true≢false}
 use mathlib.Core.List.{List, [], _∷_, _++_, map}
 use mathlib.Core.Option.{Option, none, some}
 use Prim.Native.Nat.{ℕ, zero, suc, _+_, _*_, _≤_, _<_}
-use native.Mathlib.Decide.{ℕ-discrete, decLt}
-use native.Mathlib.Numerals.{add-one}
-use native.Mathlib.Nat.{suc-mul, zero-mul}
+use native.Mathlib.Decide.{ℕ-discrete}
+use native.Mathlib.Nat.{suc-mul}
 use native.Mathlib.Omega.{arith}
 use borrow.Author.Tests.{eq-eqb, eqb-true}
 use lib.Dec.{eqb}
-use lib.ListN.{getD, length, take, drop, replicate, length-append, length-replicate, length-map, length-take, length-drop, List·getD-append, List·getD-map, List·getD-eq-default}
-use lib.Seq.{getD-append-seam, length-take-le, take-append-le, drop-drop}
+use lib.ListN.{getD, length, take, drop, replicate, length-append, length-replicate, length-map, List·getD-append, List·getD-eq-default}
+use lib.Seq.{getD-append-seam}
 use Rattle.lists.specs.First.{any}
 use Rattle.lists.specs.Masks.{zipped}
+use Rattle.lists.proofs.Masks.{zipped-at, zipped-long}
 use Rattle.kuhn_munkres.specs.Groups.{Labels, relabel, relabelled, hit, hits, joinedTo, join, joins, alone, labels}
 use Rattle.kuhn_munkres.specs.Assignment.{rowsOf}
+use Rattle.kuhn_munkres.proofs.Rows.{rows-snoc, rows-count, row-long}
 
 -- ---- lists
-pub zipped-at : {A B C : Type 0} (f : A → B → C) (xs : List A) (ys : List B) (j : ℕ) (a : A) (b : B) (c : C) → j < length xs → j < length ys → getD (zipped f xs ys) j c ≡ f (getD xs j a) (getD ys j b)
-unfolding zipped
-zipped-at f [] ys j a b c h g = absurd (omega arith)
-zipped-at f (x ∷ xs) [] j a b c h g = absurd (omega arith)
-zipped-at f (x ∷ xs) (y ∷ ys) zero a b c h g = refl
-zipped-at f (x ∷ xs) (y ∷ ys) (suc j) a b c h g = zipped-at f xs ys j a b c (omega arith) (omega arith)
-
-pub zipped-long : {A B C : Type 0} (f : A → B → C) (xs : List A) (ys : List B) → length xs ≡ length ys → length (zipped f xs ys) ≡ length ys
-unfolding zipped
-zipped-long f [] [] e = refl
-zipped-long f [] (y ∷ ys) e = absurd (omega arith)
-zipped-long f (x ∷ xs) [] e = absurd (omega arith)
-zipped-long f (x ∷ xs) (y ∷ ys) e = ap suc (zipped-long f xs ys (omega arith))
-
 pub map-at : {A B : Type 0} (f : A → B) (l : List A) (j : ℕ) (a : A) (b : B) → j < length l → getD (map f l) j b ≡ f (getD l j a)
 map-at f [] j a b h = absurd (omega arith)
 map-at f (x ∷ l) zero a b h = refl
@@ -207,19 +194,6 @@ module _ {F : Type 0} (finite : F → Bool) (d : F) (no-cost : finite d ≡ fals
   joins-snoc k [] r s = let e : k ≡ k + 0 = omega arith in ap (λ (i : ℕ). join finite i r s) e
   joins-snoc k (q ∷ rows) r s = let e : suc k + length rows ≡ k + suc (length rows) = omega arith in joins-snoc (suc k) rows r (join finite k q s) ∙ ap (λ (i : ℕ). join finite i r (joins finite (suc k) rows (join finite k q s))) e
 
-pub rows-snoc : {F : Type 0} (n w : ℕ) (l : List F) → rowsOf (suc n) w l ≡ rowsOf n w l ++ (take w (drop (n * w) l) ∷ [])
-unfolding rowsOf
-rows-snoc zero w l = rw (zero-mul w)
-rows-snoc (suc n) w l =
-    let m : w + n * w ≡ suc n * w = omega (arith, suc-mul n w) in
-    let e : drop (n * w) (drop w l) ≡ drop (suc n * w) l = drop-drop (n * w) w l ∙ ap (λ (k : ℕ). drop k l) m in
-    ap (λ (q : List (List _)). take w l ∷ q) (rows-snoc n w (drop w l)) ∙ rw e
-
-pub rows-count : {F : Type 0} (n w : ℕ) (l : List F) → length (rowsOf n w l) ≡ n
-unfolding rowsOf
-rows-count zero w l = refl
-rows-count (suc n) w l = ap suc (rows-count n w (drop w l))
-
 module _ {F : Type 0} (finite : F → Bool) (d : F) (no-cost : finite d ≡ false) where
   -- one row more
   pub labels-snoc : (n w : ℕ) (l : List F) → labels finite (rowsOf (suc n) w l) w ≡ join finite n (take w (drop (n * w) l)) (labels finite (rowsOf n w l) w)
@@ -228,9 +202,6 @@ module _ {F : Type 0} (finite : F → Bool) (d : F) (no-cost : finite d ≡ fals
       ap (λ (r : List (List F)). joins finite zero r (alone finite w)) (rows-snoc n w l)
       ∙ joins-snoc finite d no-cost zero (rowsOf n w l) (take w (drop (n * w) l)) (alone finite w)
       ∙ ap (λ (i : ℕ). join finite i (take w (drop (n * w) l)) (joins finite zero (rowsOf n w l) (alone finite w))) (let e = rows-count n w l in omega arith)
-
-  pub row-long : (n w : ℕ) (l : List F) → suc n * w ≤ length l → length (take w (drop (n * w) l)) ≡ w
-  row-long n w l h = length-take-le w (drop (n * w) l) (rw (length-drop (n * w) l) (omega (arith, suc-mul n w)))
 
   pub named-all : (n w : ℕ) (l : List F) → n * w ≤ length l → Named finite d no-cost n w (labels finite (rowsOf n w l) w)
   unfolding rowsOf labels joins

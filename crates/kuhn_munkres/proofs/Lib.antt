@@ -4,7 +4,9 @@ pub mod Places
 pub mod Ends
 pub mod Back
 pub mod Examples
+pub mod Rows
 pub mod Labels
+pub mod Takers
 pub mod Columns
 pub mod Kept
 pub mod Matched

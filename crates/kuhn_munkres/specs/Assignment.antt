@@ -16,6 +16,7 @@ use Rattle.kuhn_munkres.specs.Binary64.{float}
 use Rattle.lists.specs.First.{any}
 use Rattle.lists.specs.Masks.{leftBy, spread, upFrom}
 use Rattle.kuhn_munkres.specs.Groups.{Labels, labels, isLabel}
+use Rattle.kuhn_munkres.specs.Takers.{Takers}
 
 -- ---- the table
 -- 01, Assignment: "The cost table is lent as 64-bit floats, row after row": its first n rows of w costs each
@@ -51,12 +52,12 @@ takerOf n zero = none
 takerOf n (suc i) = cond (ltb i n) (some i) none
 
 -- 01, Assignment (refusals): "10 .. a step not finite". That the turns are never spent is a law (proofs/Ends).
-unfoldable pub takersIn : {N : Type 0} → Square N → Search N → Reply (List (Option ℕ))
+unfoldable pub takersIn : {N : Type 0} → Square N → Search N → Reply (Takers)
 takersIn q (found s) = given (map (takerOf (q .rows)) (take (q .cols) (drop 1 (s .p))))
 takersIn q stopped = refused 10
 takersIn q spent = refused 10
 
-unfoldable pub solved : {N : Type 0} → Ops N → Square N → Reply (List (Option ℕ))
+unfoldable pub solved : {N : Type 0} → Ops N → Square N → Reply (Takers)
 solved O q = takersIn q (rows O (entry O q) (q .rows + q .cols) (q .rows + q .cols))
 
 abbrev pub widthOf : {F : Type 0} → List (List F) → ℕ
@@ -74,20 +75,20 @@ named names (some i) = some (getD names i 0)
 abbrev pub same : Bool → Bool
 same b = b
 
-module _ {F : Type 0} (dense : List (List F) → Reply (List (Option ℕ))) where
+module _ {F : Type 0} (dense : List (List F) → Reply (Takers)) where
   -- one group, of the rows and columns that the masks name: nothing where it has no column
-  unfoldable pub groupIn : Bool → List (List F) → List ℕ → List Bool → List Bool → List (Option ℕ) → Reply (List (Option ℕ))
+  unfoldable pub groupIn : Bool → List (List F) → List ℕ → List Bool → List Bool → Takers → Reply (Takers)
   groupIn false rows names rm cm t = given t
   groupIn true rows names rm cm t = andThen (dense (map (leftBy cm) (leftBy rm rows))) (λ own. given (spread cm (map (named (leftBy rm names)) own) t))
 
   -- group after group, each put at its own columns
-  unfoldable pub groups : List (List F) → Labels → List ℕ → List (Option ℕ) → Reply (List (Option ℕ))
+  unfoldable pub groups : List (List F) → Labels → List ℕ → Takers → Reply (Takers)
   groups rows s [] t = given t
   groups rows s (g ∷ gs) t = let cm = map (isLabel g) (s .ofColumns) in
       andThen (groupIn (any same cm) rows (upFrom zero rows) (map (eqb g) (s .ofRows)) cm t) (groups rows s gs)
 
 -- the row that takes each of n columns of a table, or none
-unfoldable pub pairing : Float → Float → List (List Float) → ℕ → Reply (List (Option ℕ))
+unfoldable pub pairing : Float → Float → List (List Float) → ℕ → Reply (Takers)
 pairing rowCost columnCost rows n =
     let far = sentinelOf (largestOf (larger rowCost columnCost) rows) in
     groups (λ table. solved float (squareOf far rowCost columnCost table)) rows (labels finite rows n) (upFrom zero rows) (replicate n none)
@@ -98,7 +99,7 @@ orElse true n r = refused n
 orElse false n r = r
 
 -- 01, Assignment (refusals): "11 over 64 rows or columns; 9 an unmatched cost not finite; 10 table length isn't rows × columns, or a step not finite."
-unfoldable pub takersReply : List Float → ℕ → ℕ → Float → Float → Reply (List (Option ℕ))
+unfoldable pub takersReply : List Float → ℕ → ℕ → Float → Float → Reply (Takers)
 takersReply costs n m rowCost columnCost =
     orElse (ltb 64 n || ltb 64 m) 11
     (orElse (not (finite rowCost && finite columnCost)) 9
@@ -116,7 +117,7 @@ pub record Pairs : Type 0 where
   pub columns : List ℕ
 
 -- the column, from k on, that row i takes
-unfoldable pub columnOf : ℕ → ℕ → List (Option ℕ) → Option ℕ
+unfoldable pub columnOf : ℕ → ℕ → Takers → Option ℕ
 columnOf i k [] = none
 columnOf i k (o ∷ t) = let r = columnOf i (suc k) t in cond (isLabel i o) (some k) r
 
@@ -129,19 +130,19 @@ freeAt i none l = i ∷ l
 freeAt i (some j) l = l
 
 -- rows i, i + 1, .., n of them
-unfoldable pub pairsFrom : List (Option ℕ) → ℕ → ℕ → List Pair
+unfoldable pub pairsFrom : Takers → ℕ → ℕ → List Pair
 pairsFrom t i zero = []
 pairsFrom t i (suc n) = pairAt i (columnOf i 0 t) (pairsFrom t (suc i) n)
 
-unfoldable pub freeRows : List (Option ℕ) → ℕ → ℕ → List ℕ
+unfoldable pub freeRows : Takers → ℕ → ℕ → List ℕ
 freeRows t i zero = []
 freeRows t i (suc n) = freeAt i (columnOf i 0 t) (freeRows t (suc i) n)
 
-unfoldable pub freeColumns : ℕ → List (Option ℕ) → List ℕ
+unfoldable pub freeColumns : ℕ → Takers → List ℕ
 freeColumns k [] = []
 freeColumns k (o ∷ t) = freeAt k o (freeColumns (suc k) t)
 
-unfoldable pub pairsOf : ℕ → List (Option ℕ) → Pairs
+unfoldable pub pairsOf : ℕ → Takers → Pairs
 pairsOf n t = record { pairs = pairsFrom t 0 n; rows = freeRows t 0 n; columns = freeColumns 0 t }
 
 -- what `linear_assignment` answers

@@ -4,4 +4,5 @@ pub mod Ranges
 pub mod Square
 pub mod Binary64
 pub mod Groups
+pub mod Takers
 pub mod Assignment

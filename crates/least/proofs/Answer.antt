@@ -23,10 +23,9 @@ use Rattle.kuhn_munkres.specs.Steps.{State, found, rows}
 use Rattle.lists.specs.Masks.{upFrom}
 use Rattle.kuhn_munkres.specs.Groups.{labels}
 use Rattle.kuhn_munkres.specs.Assignment.{Pair, Pairs, rowsOf, solved, squareOf, larger, largestOf, sentinelOf, groups, pairing, orElse, takersReply, pairsOf, assignmentReply}
-use Rattle.kuhn_munkres.proofs.Labels.{rows-count}
+use Rattle.kuhn_munkres.proofs.Rows.{rows-count, rows-at}
 use Rattle.potentials.proofs.Square.{LeastSquare, square-least}
 use Rattle.groups.specs.Solvers.{allows, entryOf, Solves}
-use Rattle.groups.proofs.Masks.{rows-at}
 use Rattle.groups.proofs.Composed.{groups-least}
 use Rattle.least.specs.Least.{Pairing, total, costAt, allowedIn, WholeCosts, LeastTotal, LeastOnWholes}
 use Rattle.least.proofs.Sentinel.{Ranged, larger-ranged, largestOf-ranged, sentinel-whole}

@@ -187,6 +187,22 @@ any-up k (x ∷ l) g h q = go (ℕ-discrete g k) (λ f. any-up (suc k) l g f (om
     go (yes e) ih = rw (eq-eqb g k e)
     go (no f) ih = rw (ne-eqb g k f) (ih (omega arith))
 
+-- ---- two lists, element by element
+
+pub zipped-at : {A B C : Type 0} (f : A → B → C) (xs : List A) (ys : List B) (j : ℕ) (a : A) (b : B) (c : C) → j < length xs → j < length ys → getD (zipped f xs ys) j c ≡ f (getD xs j a) (getD ys j b)
+unfolding zipped
+zipped-at f [] ys j a b c h g = absurd (omega arith)
+zipped-at f (x ∷ xs) [] j a b c h g = absurd (omega arith)
+zipped-at f (x ∷ xs) (y ∷ ys) zero a b c h g = refl
+zipped-at f (x ∷ xs) (y ∷ ys) (suc j) a b c h g = zipped-at f xs ys j a b c (omega arith) (omega arith)
+
+pub zipped-long : {A B C : Type 0} (f : A → B → C) (xs : List A) (ys : List B) → length xs ≡ length ys → length (zipped f xs ys) ≡ length ys
+unfolding zipped
+zipped-long f [] [] e = refl
+zipped-long f [] (y ∷ ys) e = absurd (omega arith)
+zipped-long f (x ∷ xs) [] e = absurd (omega arith)
+zipped-long f (x ∷ xs) (y ∷ ys) e = ap suc (zipped-long f xs ys (omega arith))
+
 -- ---- a mask with something on it
 
 pub any-in : (k : List Bool) (i : ℕ) → getD k i false ≡ true → any (λ b. b) k ≡ true
