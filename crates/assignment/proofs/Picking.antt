@@ -10,7 +10,8 @@ use lib.ListN.{getD, set, length, take, drop, length-append, length-set}
 use lib.Seq.{take-suc-set, drop-cons, drop-length}
 use lib.Ieee.{Float, nan}
 use lib.Ieee.Scale.{finite}
-use Rattle.kuhn_munkres.specs.Assignment.{inOne, largest, larger}
+use Rattle.number.specs.Float.{largerOf}
+use Rattle.kuhn_munkres.specs.Assignment.{inOne, largest}
 use Rattle.groups.specs.Picks.{picked, ticks}
 use Rattle.groups.proofs.Picking.{picked-on, picked-off, picked-long, ticks-on, ticks-off, ticks-le}
 use Rattle.assignment.specs.Picks.{bears, Laid, groupRow, groupTable, Gathered}
@@ -33,15 +34,15 @@ inOne-snoc [] r = append-nil r
 inOne-snoc (q ∷ t) r = ap (λ (l : List _). q ++ l) (inOne-snoc t r) ∙ sym (append-assoc q (inOne t) r)
 
 -- ---- the largest cost
-largest-step : (m : Float) (l : List Float) (k : ℕ) → k < length l → largest m (drop k l) ≡ largest (cond (finite (getD l k nan)) (larger m (getD l k nan)) m) (drop (k + 1) l)
+largest-step : (m : Float) (l : List Float) (k : ℕ) → k < length l → largest m (drop k l) ≡ largest (cond (finite (getD l k nan)) (largerOf m (getD l k nan)) m) (drop (k + 1) l)
 unfolding largest
-largest-step m l k h = ap (largest m) (drop-cons l k nan h) ∙ ap (λ (i : ℕ). largest (cond (finite (getD l k nan)) (larger m (getD l k nan)) m) (drop i l)) (sym (add-one k))
+largest-step m l k h = ap (largest m) (drop-cons l k nan h) ∙ ap (λ (i : ℕ). largest (cond (finite (getD l k nan)) (largerOf m (getD l k nan)) m) (drop i l)) (sym (add-one k))
 
 pub largest-skip : (m : Float) (l : List Float) (k : ℕ) → k < length l → finite (getD l k nan) ≡ false → largest m (drop (k + 1) l) ≡ largest m (drop k l)
-largest-skip m l k h e = sym (largest-step m l k h ∙ ap (λ (b : Bool). largest (cond b (larger m (getD l k nan)) m) (drop (k + 1) l)) e)
+largest-skip m l k h e = sym (largest-step m l k h ∙ ap (λ (b : Bool). largest (cond b (largerOf m (getD l k nan)) m) (drop (k + 1) l)) e)
 
-pub largest-take : (m : Float) (l : List Float) (k : ℕ) → k < length l → finite (getD l k nan) ≡ true → largest (larger m (getD l k nan)) (drop (k + 1) l) ≡ largest m (drop k l)
-largest-take m l k h e = sym (largest-step m l k h ∙ ap (λ (b : Bool). largest (cond b (larger m (getD l k nan)) m) (drop (k + 1) l)) e)
+pub largest-take : (m : Float) (l : List Float) (k : ℕ) → k < length l → finite (getD l k nan) ≡ true → largest (largerOf m (getD l k nan)) (drop (k + 1) l) ≡ largest m (drop k l)
+largest-take m l k h e = sym (largest-step m l k h ∙ ap (λ (b : Bool). largest (cond b (largerOf m (getD l k nan)) m) (drop (k + 1) l)) e)
 
 pub largest-done : (m : Float) (l : List Float) (k : ℕ) → k ≡ length l → largest m (drop k l) ≡ m
 unfolding largest

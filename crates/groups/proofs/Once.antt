@@ -5,13 +5,11 @@ use mathlib.Core.Bool.{Bool, true, false, cond, true≢false}
 use mathlib.Core.List.{List, [], _∷_, map}
 use mathlib.Core.Option.{Option, none, some}
 use Prim.Native.Nat.{ℕ, zero, suc, _+_, _*_, _≤_, _<_}
-use native.Mathlib.Decide.{decLt}
 use native.Mathlib.Omega.{arith}
-use borrow.Author.Tests.{lt-ltb, le-ltb}
 use lib.ListN.{getD, length, take, drop, length-map, length-drop, length-replicate, replicate}
 use lib.Seq.{getD-take, getD-drop, length-take-le}
-use lib.Ieee.{Float, nan, inf, fin, binary64, sub, add}
-use lib.Ieee.Scale.{finite}
+use lib.Ieee.{Float}
+use Rattle.number.specs.Float.{largerOf}
 use Rattle.number.specs.Reply.{Reply, given}
 use Rattle.number.proofs.Replies.{given-same, bound}
 use Rattle.kuhn_munkres.specs.Binary64.{float}
@@ -20,7 +18,7 @@ use Rattle.kuhn_munkres.specs.Steps.{State, Search, found, stopped, spent, rows
 use Rattle.lists.specs.First.{any}
 use Rattle.lists.specs.Masks.{spread, upFrom}
 use Rattle.lists.proofs.Masks.{spread-long}
-use Rattle.kuhn_munkres.specs.Assignment.{rowsOf, takerOf, takersIn, solved, squareOf, named, groupIn, groups, same, pairing, sentinelOf, largestOf, larger}
+use Rattle.kuhn_munkres.specs.Assignment.{rowsOf, takerOf, takersIn, solved, squareOf, named, groupIn, groups, same, pairing, sentinelOf, largestOf}
 use Rattle.kuhn_munkres.proofs.Kept.{AllFound, rows-long}
 use Rattle.kuhn_munkres.proofs.Matched.{Matched, rows-matched}
 use Rattle.kuhn_munkres.proofs.Top.{top-stays}
@@ -203,5 +201,5 @@ none-sound costs n m = record { long = length-replicate m none; low = λ j i e. 
 pub pairing-sound : (costs : List Float) (n m : ℕ) → n ≤ 64 → m ≤ 64 → length costs ≡ n * m → (rowCost columnCost : Float) (t : List (Option ℕ)) → pairing rowCost columnCost (rowsOf n m costs) m ≡ given t → Sound costs n m t
 unfolding pairing
 pairing-sound costs n m hn hm size rowCost columnCost t e =
-    let far = sentinelOf (largestOf (larger rowCost columnCost) (rowsOf n m costs)) in
+    let far = sentinelOf (largestOf (largerOf rowCost columnCost) (rowsOf n m costs)) in
     groups-sound costs n m hn hm size (ownReply far rowCost columnCost) (own-fair far rowCost columnCost) (upFrom zero (rowsOf n m costs)) (replicate m none) t (none-sound costs n m) e

@@ -1,18 +1,17 @@
 -- The checks of the call, and what the run ends with, as its reply.
 use mathlib.Core.Path.{_≡_, refl, sym, ap, _∙_}
-use mathlib.Core.Bool.{Bool, true, false, not, _||_}
+use mathlib.Core.Bool.{Bool, true, false, _&&_}
 use mathlib.Core.List.{List}
 use Prim.Native.Nat.{ℕ, zero, suc, _+_, _*_, _≤_, _<_}
 use native.Mathlib.Omega.{arith}
-use borrow.Author.Tests.{lt-ltb, le-ltb, eq-eqb, ne-eqb}
-use lib.Dec.{eqb, ltb}
+use borrow.Author.Tests.{lt-leb, le-leb, eq-eqb, ne-eqb}
+use lib.Dec.{eqb, leb}
 use lib.ListN.{length}
 use lib.Ieee.{Float}
-use Rattle.number.specs.Reply.{Reply, refused, given}
-use Rattle.kuhn_munkres.specs.Assignment.{orElse}
+use Rattle.number.specs.Reply.{Reply, refused, given, refuseUnless}
 use Rattle.kuhn_munkres.specs.Binary64.{float}
 use Rattle.kuhn_munkres.specs.Square.{entry}
-use Rattle.kuhn_munkres.specs.Steps.{State, Search, found, stopped, spent, rows}
+use Rattle.kuhn_munkres.specs.Steps.{Search, found, stopped, spent, rows}
 use Rattle.hungarian.specs.Structs.{squareFrom}
 use Rattle.hungarian.specs.Ends.{matched, halts, loses, endOf, pickEnd, endReply, runReply, replyOfRun, leftIn, RunAnswer}
 use Rattle.hungarian.specs.declared.Shape.{Shape}
@@ -39,7 +38,7 @@ module _ (costs : List Float) (q : Shape) where
   abbrev X : Search Float
   X = rows float (entry float (squareFrom costs q)) (q .rows + q .cols) (q .rows + q .cols)
 
-  by : (a b c : Bool) → ltb 64 (q .rows) ≡ a → ltb 64 (q .cols) ≡ b → eqb (length costs) (q .rows * q .cols) ≡ c → runReply costs q ≡ orElse (a || b) 11 (orElse (not c) 10 (endReply X))
+  by : (a b c : Bool) → leb (q .rows) 64 ≡ a → leb (q .cols) 64 ≡ b → eqb (length costs) (q .rows * q .cols) ≡ c → runReply costs q ≡ refuseUnless (a && b) 11 (refuseUnless c 10 (endReply X))
   unfolding runReply
   by a b c p r s = rw (p, r, s)
 
@@ -47,19 +46,19 @@ module _ (costs : List Float) (q : Shape) where
   declined k r p f e = record { is = f p ∙ e; left = ap (λ (x : Reply (List ℕ)). leftIn x p) e }
 
   pub rows-over : (p : List ℕ) → 64 < q .rows → RunAnswer costs q TooMany p p
-  rows-over p h = declined 11 TooMany p (λ t. refl) (sym (by true (ltb 64 (q .cols)) (eqb (length costs) (q .rows * q .cols)) (lt-ltb 64 (q .rows) h) refl refl))
+  rows-over p h = declined 11 TooMany p (λ t. refl) (sym (by false (leb (q .cols) 64) (eqb (length costs) (q .rows * q .cols)) (lt-leb (q .rows) 64 h) refl refl))
 
   module _ (hr : q .rows ≤ 64) where
     pub columns-over : (p : List ℕ) → 64 < q .cols → RunAnswer costs q TooMany p p
-    columns-over p h = declined 11 TooMany p (λ t. refl) (sym (by false true (eqb (length costs) (q .rows * q .cols)) (le-ltb 64 (q .rows) hr) (lt-ltb 64 (q .cols) h) refl))
+    columns-over p h = declined 11 TooMany p (λ t. refl) (sym (by true false (eqb (length costs) (q .rows * q .cols)) (le-leb (q .rows) 64 hr) (lt-leb (q .cols) 64 h) refl))
 
     module _ (hc : q .cols ≤ 64) where
       pub size-bad : (p : List ℕ) → (length costs ≡ q .rows * q .cols → ⊥) → RunAnswer costs q Failed p p
-      size-bad p h = declined 10 Failed p (λ t. refl) (sym (by false false false (le-ltb 64 (q .rows) hr) (le-ltb 64 (q .cols) hc) (ne-eqb (length costs) (q .rows * q .cols) h)))
+      size-bad p h = declined 10 Failed p (λ t. refl) (sym (by true true false (le-leb (q .rows) 64 hr) (le-leb (q .cols) 64 hc) (ne-eqb (length costs) (q .rows * q .cols) h)))
 
       module _ (size : length costs ≡ q .rows * q .cols) where
         pub checked : runReply costs q ≡ endReply X
-        checked = by false false true (le-ltb 64 (q .rows) hr) (le-ltb 64 (q .cols) hc) (eq-eqb (length costs) (q .rows * q .cols) size)
+        checked = by true true true (le-leb (q .rows) 64 hr) (le-leb (q .cols) 64 hc) (eq-eqb (length costs) (q .rows * q .cols) size)
 
         pub run-failed : (p t : List ℕ) (status : ℕ) → (status ≡ 0 → ⊥) → pickEnd status t ≡ endOf X → RunAnswer costs q Failed p p
         run-failed p t status f e = declined 10 Failed p (λ t. refl) (end-refused X status t f e ∙ sym checked)

@@ -1,13 +1,12 @@
 -- What a search for a free column and the whole run end with, from the code's arrays and status.
 use mathlib.Core.Path.{_≡_}
-use mathlib.Core.Bool.{Bool, false, not, _||_}
+use mathlib.Core.Bool.{Bool, false, _&&_}
 use mathlib.Core.List.{List}
 use Prim.Native.Nat.{ℕ, zero, suc, _+_, _*_}
-use lib.Dec.{eqb, ltb}
+use lib.Dec.{eqb, leb}
 use lib.ListN.{length, replicate}
 use lib.Ieee.{Float}
-use Rattle.number.specs.Reply.{Reply, refused, given}
-use Rattle.kuhn_munkres.specs.Assignment.{orElse}
+use Rattle.number.specs.Reply.{Reply, refused, given, refuseUnless}
 use Rattle.kuhn_munkres.specs.Binary64.{float}
 use Rattle.kuhn_munkres.specs.Square.{entry}
 use Rattle.kuhn_munkres.specs.Steps.{State, Search, found, stopped, spent, rows}
@@ -73,8 +72,8 @@ endReply spent = refused 10
 -- 01, Assignment (refusals): "11 over 64 rows or columns; .. 10 table length isn't rows × columns, or a step not finite"
 unfoldable pub runReply : List Float → Shape → Reply (List ℕ)
 runReply costs q =
-    orElse (ltb 64 (q .rows) || ltb 64 (q .cols)) 11
-    (orElse (not (eqb (length costs) (q .rows * q .cols))) 10
+    refuseUnless (leb (q .rows) 64 && leb (q .cols) 64) 11
+    (refuseUnless (eqb (length costs) (q .rows * q .cols)) 10
     (endReply (rows float (entry float (squareFrom costs q)) (q .rows + q .cols) (q .rows + q .cols))))
 
 abbrev pub replyOfRun : {A : Type 0} → Run → A → Reply A

@@ -8,6 +8,7 @@ use lib.ListN.{length, replicate}
 use lib.Dec.{eqb}
 use lib.Ieee.{Float}
 use lib.Ieee.Scale.{finite}
+use Rattle.number.specs.Float.{largerOf}
 use Rattle.number.specs.Reply.{Reply, given, andThen}
 use Rattle.number.proofs.Replies.{given-same, bound, then-given}
 use Rattle.lists.specs.First.{any}
@@ -15,7 +16,7 @@ use Rattle.lists.specs.Masks.{leftBy, spread, Struck, Absent, Every, count, upF
 use Rattle.lists.proofs.Masks.{Out, map-left, map-map, zipped-left, upFrom-map, clear-left, clear-any, spread-left, none-left}
 use Rattle.kuhn_munkres.specs.Binary64.{float}
 use Rattle.kuhn_munkres.specs.Groups.{Labels, relabelled, hit, hits, joinedTo, join, joins, labels, isLabel}
-use Rattle.kuhn_munkres.specs.Assignment.{larger, largest, largestOf, sentinelOf, solved, squareOf, named, same, groupIn, groups, pairing}
+use Rattle.kuhn_munkres.specs.Assignment.{largest, largestOf, sentinelOf, solved, squareOf, named, same, groupIn, groups, pairing}
 
 -- ---- masks of labels
 label-out : (g : ℕ) (k : List Bool) (cols : List (Option ℕ)) → Struck Absent k cols → Struck Out k (map (isLabel g) cols)
@@ -36,7 +37,7 @@ largest-left [] m [] h = refl
 largest-left [] m (x ∷ row) h = absurd h
 largest-left (c ∷ k) m [] h = absurd h
 largest-left (true ∷ k) m (x ∷ row) h = largest-left k _ row h
-largest-left (false ∷ k) m (x ∷ row) h = largest-left k m row (h .1) ∙ ap (λ (b : Bool). largest (cond b (larger m x) m) row) (sym (h .0))
+largest-left (false ∷ k) m (x ∷ row) h = largest-left k m row (h .1) ∙ ap (λ (b : Bool). largest (cond b (largerOf m x) m) row) (sym (h .0))
 
 largestOf-left : (k : List Bool) (m : Float) (rows : List (List Float)) → Every (Struck Far k) rows → largestOf m (map (leftBy k) rows) ≡ largestOf m rows
 unfolding Every largestOf
@@ -112,6 +113,6 @@ far-columns rowCost columnCost k rows takers h e =
     let n = none-left k in
     let s : Labels = record { ofRows = []; ofColumns = replicate (length k) none } in
     let j = joins-left k zero rows s h (n .1) in
-    let far = sentinelOf (largestOf (larger rowCost columnCost) rows) in
+    let far = sentinelOf (largestOf (largerOf rowCost columnCost) rows) in
     let r = groups-left (λ table. solved float (squareOf far rowCost columnCost table)) k rows (joins finite zero rows s) (upFrom zero rows) (replicate (length k) none) takers (j .1) (n .1) e in
-    (rw (largestOf-left k (larger rowCost columnCost) rows h, upFrom-map (leftBy k) zero rows, ← n .0) (rw (← j .0) at (r .0)), r .1)
+    (rw (largestOf-left k (largerOf rowCost columnCost) rows h, upFrom-map (leftBy k) zero rows, ← n .0) (rw (← j .0) at (r .0)), r .1)

@@ -1,14 +1,14 @@
 -- The whole of `linear_assignment`: refusals, sentinel, groups, each group's own square and its steps, pairs and lists.
 use mathlib.Core.List.{List, [], _∷_, _++_, map}
 use mathlib.Core.Option.{Option, none, some}
-use mathlib.Core.Bool.{Bool, true, false, cond, not, _&&_, _||_}
+use mathlib.Core.Bool.{Bool, true, false, cond, _&&_}
 use Prim.Native.Nat.{ℕ, zero, suc, _+_, _*_}
 use lib.ListN.{length, getD, take, drop, replicate}
-use lib.Dec.{eqb, ltb}
-use lib.Ieee.{Float, binary64, add, mul, lt, ofBits}
+use lib.Dec.{eqb, ltb, leb}
+use lib.Ieee.{Float, binary64, add, mul, ofBits}
 use lib.Ieee.Scale.{finite}
-use Rattle.number.specs.Reply.{Reply, refused, given, andThen}
-use Rattle.number.specs.Float.{absoluteOf}
+use Rattle.number.specs.Reply.{Reply, refused, given, andThen, refuseUnless}
+use Rattle.number.specs.Float.{absoluteOf, largerOf}
 use Rattle.kuhn_munkres.specs.Ops.{Ops}
 use Rattle.kuhn_munkres.specs.Steps.{Search, found, stopped, spent, rows}
 use Rattle.kuhn_munkres.specs.Square.{Square, entry}
@@ -30,12 +30,9 @@ inOne [] = []
 inOne (r ∷ rows) = r ++ inOne rows
 
 -- ---- the sentinel: one for the call, over all finite costs and both unmatched costs
-abbrev pub larger : Float → Float → Float
-larger a b = cond (lt a b) b a
-
 unfoldable pub largest : Float → List Float → Float
 largest m [] = m
-largest m (x ∷ l) = largest (cond (finite x) (larger m x) m) l
+largest m (x ∷ l) = largest (cond (finite x) (largerOf m x) m) l
 
 unfoldable pub largestOf : Float → List (List Float) → Float
 largestOf m [] = m
@@ -43,7 +40,7 @@ largestOf m (r ∷ rows) = largestOf (largest m r) rows
 
 -- m + larger(|m|, 1) × 1e6 + 1e9, left to right
 unfoldable pub sentinelOf : Float → Float
-sentinelOf m = add binary64 (add binary64 m (mul binary64 (larger (absoluteOf m) (ofBits binary64 0x3ff0_0000_0000_0000)) (ofBits binary64 0x412e_8480_0000_0000))) (ofBits binary64 0x41cd_cd65_0000_0000)
+sentinelOf m = add binary64 (add binary64 m (mul binary64 (largerOf (absoluteOf m) (ofBits binary64 0x3ff0_0000_0000_0000)) (ofBits binary64 0x412e_8480_0000_0000))) (ofBits binary64 0x41cd_cd65_0000_0000)
 
 -- ---- one group, by the columns of its own table: the row that takes each, or none
 -- `rows` counts from 1; a dummy row takes no column
@@ -90,20 +87,16 @@ module _ {F : Type 0} (dense : List (List F) → Reply (Takers)) where
 -- the row that takes each of n columns of a table, or none
 unfoldable pub pairing : Float → Float → List (List Float) → ℕ → Reply (Takers)
 pairing rowCost columnCost rows n =
-    let far = sentinelOf (largestOf (larger rowCost columnCost) rows) in
+    let far = sentinelOf (largestOf (largerOf rowCost columnCost) rows) in
     groups (λ table. solved float (squareOf far rowCost columnCost table)) rows (labels finite rows n) (upFrom zero rows) (replicate n none)
 
 -- ---- the call
-abbrev pub orElse : {A : Type 0} → Bool → ℕ → Reply A → Reply A
-orElse true n r = refused n
-orElse false n r = r
-
 -- 01, Assignment (refusals): "11 over 64 rows or columns; 9 an unmatched cost not finite; 10 table length isn't rows × columns, or a step not finite."
 unfoldable pub takersReply : List Float → ℕ → ℕ → Float → Float → Reply (Takers)
 takersReply costs n m rowCost columnCost =
-    orElse (ltb 64 n || ltb 64 m) 11
-    (orElse (not (finite rowCost && finite columnCost)) 9
-    (orElse (not (eqb (length costs) (n * m))) 10
+    refuseUnless (leb n 64 && leb m 64) 11
+    (refuseUnless (finite rowCost && finite columnCost) 9
+    (refuseUnless (eqb (length costs) (n * m)) 10
     (pairing rowCost columnCost (rowsOf n m costs) m)))
 
 -- ---- pairs and lists. 01, Assignment: "Each row and column stands in one pair or one unmatched list; lists ascend."

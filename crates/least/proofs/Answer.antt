@@ -1,33 +1,33 @@
 -- The answer of the assignment has the least total on whole costs: each group's square, padding, groups and lists of pairs put together.
-use mathlib.Core.Path.{_≡_, refl, sym, ap, ap₂, _∙_, subst}
-use mathlib.Core.Bool.{Bool, true, false, cond, not, _&&_, _||_, true≢false}
-use mathlib.Core.List.{List, [], _∷_, map}
-use mathlib.Core.Option.{Option, none, some}
-use Prim.Native.Nat.{ℕ, zero, suc, _+_, _*_, _^_, _≤_, _<_}
+use mathlib.Core.Path.{_≡_, refl, sym, ap, _∙_, subst}
+use mathlib.Core.Bool.{Bool, true, false, cond, true≢false}
+use mathlib.Core.List.{List, []}
+use mathlib.Core.Option.{Option, none}
+use Prim.Native.Nat.{ℕ, zero, _+_, _*_, _^_, _≤_, _<_}
 use native.Mathlib.Decide.{decLt}
 use native.Mathlib.Omega.{arith}
-use borrow.Author.Tests.{lt-ltb, le-ltb, ltb-true, eq-eqb}
+use borrow.Author.Tests.{le-leb, ltb-true, eq-eqb}
 use lib.Dec.{eqb, ltb}
 use lib.ListN.{getD, length, take, drop, replicate, List·getD-eq-default}
 use lib.Seq.{getD-take, getD-drop}
-use lib.Ieee.{Float, nan, inf, fin}
+use lib.Ieee.{Float, nan}
 use lib.Ieee.Scale.{finite}
-use Rattle.number.specs.Reply.{Reply, refused, given}
-use Rattle.whole.specs.Integer.{Integer, 0Z, natural, _≤Z_, Within, sum}
+use Rattle.number.specs.Float.{largerOf}
+use Rattle.number.specs.Reply.{given}
+use Rattle.whole.specs.Integer.{Integer, natural, _≤Z_, Within}
 use Rattle.whole.specs.Whole.{WholeValue}
 use Rattle.whole.specs.Takers.{LeastTakes}
 use Rattle.whole.proofs.Values.{whole-finite}
 use Rattle.kuhn_munkres.specs.Binary64.{float}
 use Rattle.kuhn_munkres.specs.Square.{Square, entry}
-use Rattle.kuhn_munkres.specs.Steps.{State, found, rows}
 use Rattle.lists.specs.Masks.{upFrom}
 use Rattle.kuhn_munkres.specs.Groups.{labels}
-use Rattle.kuhn_munkres.specs.Assignment.{Pair, Pairs, rowsOf, solved, squareOf, larger, largestOf, sentinelOf, groups, pairing, orElse, takersReply, pairsOf, assignmentReply}
+use Rattle.kuhn_munkres.specs.Assignment.{rowsOf, solved, squareOf, largestOf, sentinelOf, groups, pairing, takersReply, pairsOf, assignmentReply}
 use Rattle.kuhn_munkres.proofs.Rows.{rows-count, rows-at}
-use Rattle.potentials.proofs.Square.{LeastSquare, square-least}
-use Rattle.groups.specs.Solvers.{allows, entryOf, Solves}
+use Rattle.potentials.proofs.Square.{square-least}
+use Rattle.groups.specs.Solvers.{Solves}
 use Rattle.groups.proofs.Composed.{groups-least}
-use Rattle.least.specs.Least.{Pairing, total, costAt, allowedIn, WholeCosts, LeastTotal, LeastOnWholes}
+use Rattle.least.specs.Least.{costAt, allowedIn, WholeCosts, LeastTotal, LeastOnWholes}
 use Rattle.least.proofs.Sentinel.{Ranged, larger-ranged, largestOf-ranged, sentinel-whole}
 use Rattle.least.proofs.Padding.{padded, taker, padded-least}
 use Rattle.least.proofs.Lists.{least-pairs}
@@ -92,14 +92,14 @@ module _ (costs : List Float) (n m : ℕ) (rowCost columnCost : Float) (cost : �
           short x q = omega arith
       go (no h) d = absurd (true≢false (sym e ∙ ap finite (row-past costs n m i j (omega arith))))
 
-  top-ranged : Ranged (largestOf (larger rowCost columnCost) R)
-  top-ranged = largestOf-ranged (larger rowCost columnCost) R (larger-ranged rowCost columnCost (row, W .row-is .0, W .row-is .1) (column, W .column-is .0, W .column-is .1)) entry-ranged
+  top-ranged : Ranged (largestOf (largerOf rowCost columnCost) R)
+  top-ranged = largestOf-ranged (largerOf rowCost columnCost) R (larger-ranged rowCost columnCost (row, W .row-is .0, W .row-is .1) (column, W .column-is .0, W .column-is .1)) entry-ranged
 
   abbrev far : Float
-  far = sentinelOf (largestOf (larger rowCost columnCost) R)
+  far = sentinelOf (largestOf (largerOf rowCost columnCost) R)
 
   abbrev F : (f : Integer) × WholeValue far f × (natural 1_000_000_000 ≤Z f) × Within (2 ^ 48) f
-  F = sentinel-whole (largestOf (larger rowCost columnCost) R) top-ranged
+  F = sentinel-whole (largestOf (largerOf rowCost columnCost) R) top-ranged
 
   takers : (t : List (Option ℕ)) × (groups (λ table. solved float (squareOf far rowCost columnCost table)) R (labels finite R m) (upFrom zero R) (replicate m none) ≡ given t) × (length t ≡ m)
       × LeastTakes (allowedIn costs m) cost row column n m (λ j. getD t j none)
@@ -108,7 +108,7 @@ module _ (costs : List Float) (n m : ℕ) (rowCost columnCost : Float) (cost : �
 
   answered : assignmentReply costs n m rowCost columnCost ≡ given (pairsOf n (takers .0))
   unfolding assignmentReply takersReply pairing
-  answered = rw (le-ltb 64 n (W .rows-few), le-ltb 64 m (W .columns-few), whole-finite rowCost row (W .row-is .0), whole-finite columnCost column (W .column-is .0), eq-eqb (length costs) (n * m) (W .size), takers .1)
+  answered = rw (le-leb n 64 (W .rows-few), le-leb m 64 (W .columns-few), whole-finite rowCost row (W .row-is .0), whole-finite columnCost column (W .column-is .0), eq-eqb (length costs) (n * m) (W .size), takers .1)
 
   least-total : LeastTotal costs n m cost row column (assignmentReply costs n m rowCost columnCost)
   least-total = let l = least-pairs (allowedIn costs m) cost row column n m (takers .0) (takers .2) (takers .3) in record { answer = pairsOf n (takers .0); given-it = answered; pairing = l .0; least = l .1 }

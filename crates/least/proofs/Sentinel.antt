@@ -1,20 +1,20 @@
 -- The sentinel of whole costs: a whole number, far above what allowed pairs and unmatched costs can come to.
-use mathlib.Core.Path.{_≡_, refl, sym, ap, _∙_, subst}
+use mathlib.Core.Path.{_≡_, refl, sym, _∙_}
 use mathlib.Core.Bool.{Bool, true, false, cond}
 use mathlib.Core.List.{List, [], _∷_}
-use Prim.Native.Nat.{ℕ, zero, suc, _+_, _*_, _^_, _≤_, _<_}
+use Prim.Native.Nat.{ℕ, suc, _+_, _*_, _^_, _≤_}
 use native.Mathlib.Omega.{arith}
 use borrow.Author.Tests.{ltb-true, ltb-false}
 use lib.Dec.{ltb}
 use lib.ListN.{getD}
-use lib.Ieee.{Float, nan, inf, fin, binary64, add, mul, lt, ofBits}
+use lib.Ieee.{Float, nan, inf, fin, binary64, mul, lt, ofBits}
 use lib.Ieee.Exact.{HasValue}
 use lib.Ieee.Scale.{finite}
-use Rattle.number.specs.Float.{absoluteOf}
-use Rattle.whole.specs.Integer.{Integer, natural, _+Z_, _≤Z_, ltZ, Within}
+use Rattle.number.specs.Float.{absoluteOf, largerOf}
+use Rattle.whole.specs.Integer.{Integer, natural, _+Z_, _≤Z_, Within}
 use Rattle.whole.specs.Whole.{WholeValue, Signed}
 use Rattle.whole.proofs.Exact.{add-whole, lt-whole, mul-size}
-use Rattle.kuhn_munkres.specs.Assignment.{larger, largest, largestOf, sentinelOf}
+use Rattle.kuhn_munkres.specs.Assignment.{largest, largestOf, sentinelOf}
 
 -- a whole number in 01's range
 abbrev pub Ranged : Float → Type 0
@@ -24,15 +24,15 @@ either : (b : Bool) (x y : Float) → Ranged x → Ranged y → Ranged (cond b x
 either true x y p q = p
 either false x y p q = q
 
-pub larger-ranged : (x y : Float) → Ranged x → Ranged y → Ranged (larger x y)
+pub larger-ranged : (x y : Float) → Ranged x → Ranged y → Ranged (largerOf x y)
 larger-ranged x y p q = either (lt x y) y x q p
 
 largest-ranged : (m : Float) (l : List Float) → Ranged m → ((j : ℕ) → finite (getD l j nan) ≡ true → Ranged (getD l j nan)) → Ranged (largest m l)
 unfolding largest
 largest-ranged m [] p h = p
-largest-ranged m (x ∷ l) p h = largest-ranged (cond (finite x) (larger m x) m) l (go (finite x) refl) (λ j. h (suc j))
+largest-ranged m (x ∷ l) p h = largest-ranged (cond (finite x) (largerOf m x) m) l (go (finite x) refl) (λ j. h (suc j))
   where
-    go : (b : Bool) → finite x ≡ b → Ranged (cond b (larger m x) m)
+    go : (b : Bool) → finite x ≡ b → Ranged (cond b (largerOf m x) m)
     go true e = larger-ranged m x p (h 0 e)
     go false e = p
 
@@ -53,7 +53,7 @@ natural-value x k h = record { minus = false; mag = k; val = h; is = omega arith
 abbrev 1F : Float
 1F = ofBits binary64 0x3ff0_0000_0000_0000
 
-at-least-one : (x : Float) (k : ℕ) → HasValue x false k 1 → (l : ℕ) × HasValue (larger x 1F) false l 1 × (1 ≤ l) × (k ≤ l) × (l ≤ k + 1)
+at-least-one : (x : Float) (k : ℕ) → HasValue x false k 1 → (l : ℕ) × HasValue (largerOf x 1F) false l 1 × (1 ≤ l) × (k ≤ l) × (l ≤ k + 1)
 unfolding ofBits
 at-least-one x k h = go (lt x 1F) refl
   where
@@ -82,7 +82,7 @@ sentinel-whole m (d, v, w) =
     let l = g .0 in
     let p : l ≤ 1_000_001 = omega (arith, g .4) in
     let q : k ≤ l * 1_000_000 = omega (arith, g .3) in
-    let x = mul-size (larger (absoluteOf m) 1F) (ofBits binary64 0x412e_8480_0000_0000) false false l 1_000_000 (g .1) (refl, refl) (omega arith) in
-    let y = add-whole m (mul binary64 (larger (absoluteOf m) 1F) (ofBits binary64 0x412e_8480_0000_0000)) d (natural (l * 1_000_000)) v (natural-value _ (l * 1_000_000) x) (omega arith, omega arith) in
+    let x = mul-size (largerOf (absoluteOf m) 1F) (ofBits binary64 0x412e_8480_0000_0000) false false l 1_000_000 (g .1) (refl, refl) (omega arith) in
+    let y = add-whole m (mul binary64 (largerOf (absoluteOf m) 1F) (ofBits binary64 0x412e_8480_0000_0000)) d (natural (l * 1_000_000)) v (natural-value _ (l * 1_000_000) x) (omega arith, omega arith) in
     let z = add-whole _ (ofBits binary64 0x41cd_cd65_0000_0000) (d +Z natural (l * 1_000_000)) (natural 1_000_000_000) y (natural-value (ofBits binary64 0x41cd_cd65_0000_0000) 1_000_000_000 (refl, refl)) (omega arith, omega arith) in
     (d +Z natural (l * 1_000_000) +Z natural 1_000_000_000, z, omega (arith, lb .0), (omega arith, omega arith))

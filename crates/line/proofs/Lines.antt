@@ -1,28 +1,26 @@
 -- The whole line: its shape, what is decided, and what is written.
 use mathlib.Core.Path.{_≡_, refl, ap, sym, _∙_}
-use mathlib.Core.Bool.{Bool, true, false, cond, not, _&&_, _||_}
+use mathlib.Core.Bool.{Bool, true, false, _&&_}
 use mathlib.Core.Option.{Option, none, some}
 use mathlib.Core.List.{List, [], _∷_, _++_}
-use Prim.Native.Nat.{ℕ, zero, suc, _+_, _-_, _*_, _<_, _≤_}
+use Prim.Native.Nat.{ℕ, suc, _+_, _-_, _*_, _<_, _≤_}
 use native.Mathlib.Numerals.{add-one}
 use native.Mathlib.Omega.{arith}
-use native.Mathlib.Nat.{suc-mul, zero-mul, mul-le-mul-right, mul-le-mul-left}
-use borrow.Author.Tests.{eq-eqb, ne-eqb, lt-ltb, le-ltb, eqb-true}
-use lib.Dec.{eqb, ltb}
+use native.Mathlib.Nat.{suc-mul, zero-mul, mul-le-mul-right}
+use borrow.Author.Tests.{lt-ltb, le-ltb, lt-leb, le-leb, eqb-true}
+use lib.Dec.{eqb, leb}
 use lib.ListN.{length, take, drop, getD, length-append, length-drop}
 use lib.Seq.{drop-cons}
 use lib.Ieee.{Float, binary64, ofBits}
-use Rattle.number.specs.Reply.{Reply, refused, given}
-use Rattle.kuhn_munkres.specs.Assignment.{Pairs, inOne, orElse, assignmentReply}
+use Rattle.number.specs.Reply.{Reply}
+use Rattle.kuhn_munkres.specs.Assignment.{Pairs, inOne, assignmentReply}
 use Rattle.assignment.specs.Listing.{AssignmentAnswer, pairsIn}
-use Rattle.assignment.specs.Replies.{replyOf}
 use Rattle.assignment.specs.declared.Assigned.{Assigned}
-use Rattle.assignment.specs.declared.Outcome.{Outcome}
 use Rattle.assignment.specs.declared.Outcome.the-variants.{Given, TooMany, NonFinite, Failed}
 use Rattle.forms.specs.Shape.{formOf, readOf}
 use Rattle.forms.proofs.Shapes.{read-next, read-refused, drop-all}
 use Rattle.forms.specs.declared.Read.the-variants.{Next, Refused}
-use Rattle.request.specs.Request.{Request, Sizes, requestOf, shaped, even}
+use Rattle.request.specs.Request.{Request, requestOf, shaped, even}
 use Rattle.request.specs.Asking.{askedOf, noCosts, costsOf}
 use Rattle.request.proofs.Asks.{over-front}
 use Rattle.request.specs.declared.Asked.the-variants.{Table, NoRequest}
@@ -128,19 +126,19 @@ even-size w (r ∷ t) h = go (eqb (length r) w) refl (even-size w t) h
 module _ (read : Option Request) (r c : ℕ) (k : Float) (b : Bool) (g : AskedGot read r c k b) where
   pub decided-rows : 64 < r → refusedText 11 ≡ textOf (decided read)
   unfolding decided textOf
-  decided-rows h = rw (g .is, lt-ltb 64 (g .asked .sizes .rows) (rw (g .rows-are) at h))
+  decided-rows h = rw (g .is, lt-leb (g .asked .sizes .rows) 64 (rw (g .rows-are) at h))
 
   module _ (h : r ≤ 64) where
-    few-rows : ltb 64 (g .asked .sizes .rows) ≡ false
-    few-rows = le-ltb 64 (g .asked .sizes .rows) (rw (g .rows-are) at h)
+    few-rows : leb (g .asked .sizes .rows) 64 ≡ true
+    few-rows = le-leb (g .asked .sizes .rows) 64 (rw (g .rows-are) at h)
 
     pub decided-columns : 64 < c → refusedText 11 ≡ textOf (decided read)
     unfolding decided textOf
-    decided-columns e = rw (g .is, few-rows, lt-ltb 64 (g .asked .sizes .columns) (rw (g .columns-are) at e))
+    decided-columns e = rw (g .is, few-rows, lt-leb (g .asked .sizes .columns) 64 (rw (g .columns-are) at e))
 
     module _ (e : c ≤ 64) where
-      few-columns : ltb 64 (g .asked .sizes .columns) ≡ false
-      few-columns = le-ltb 64 (g .asked .sizes .columns) (rw (g .columns-are) at e)
+      few-columns : leb (g .asked .sizes .columns) 64 ≡ true
+      few-columns = le-leb (g .asked .sizes .columns) 64 (rw (g .columns-are) at e)
 
       pub decided-shape : b ≡ false → refusedText 10 ≡ textOf (decided read)
       unfolding decided textOf

@@ -1,17 +1,17 @@
 -- Which numbers are written: rows and columns below 64, and refusals below 100, so each as its decimal (text's proofs/Digits, `digits-read`).
-use mathlib.Core.Path.{_≡_, refl, ap, sym, _∙_}
-use mathlib.Core.Bool.{Bool, true, false, cond, not, _&&_, _||_}
+use mathlib.Core.Path.{_≡_, refl, sym}
+use mathlib.Core.Bool.{Bool, true, false, cond, _&&_}
 use mathlib.Core.Option.{Option, none, some}
 use mathlib.Core.List.{List, [], _∷_, map}
 use Prim.Native.Nat.{ℕ, zero, _+_, _*_, _<_, _≤_}
 use native.Mathlib.Omega.{arith}
 use native.Mathlib.Decide.{decLt}
-use borrow.Author.Tests.{eq-eqb, le-ltb, ltb-false}
-use lib.Dec.{eqb, ltb}
+use borrow.Author.Tests.{eq-eqb, le-ltb, leb-true}
+use lib.Dec.{eqb, ltb, leb}
 use lib.ListN.{length}
 use lib.Ieee.Scale.{finite}
 use lib.Ieee.{Float, binary64, ofBits}
-use Rattle.number.specs.Reply.{Reply, refused, given, andThen}
+use Rattle.number.specs.Reply.{Reply, refused, given, andThen, refuseUnless}
 use Rattle.number.proofs.Replies.{never-given}
 use Rattle.lists.specs.First.{any}
 use Rattle.lists.specs.Masks.{leftBy, upFrom}
@@ -19,7 +19,7 @@ use Rattle.kuhn_munkres.specs.Groups.{Labels, isLabel}
 use Rattle.kuhn_munkres.specs.Ops.{Ops}
 use Rattle.kuhn_munkres.specs.Square.{Square, entry}
 use Rattle.kuhn_munkres.specs.Steps.{Search, found, stopped, spent, rows}
-use Rattle.kuhn_munkres.specs.Assignment.{Pairs, inOne, orElse, rowsOf, same, groupIn, groups, takersIn, solved, pairing, takersReply, assignmentReply}
+use Rattle.kuhn_munkres.specs.Assignment.{Pairs, inOne, rowsOf, same, groupIn, groups, takersIn, solved, pairing, takersReply, assignmentReply}
 use Rattle.assignment.specs.Listing.{rowOf, columnIn, times, Once}
 use Rattle.assignment.proofs.Answers.{once-all}
 use Rattle.request.specs.Request.{Request, requestOf, shaped}
@@ -58,18 +58,18 @@ pub answer-named : (l : List ℕ) (a : Pairs) → replyTo l ≡ given a → Name
 unfolding replyTo decided
 answer-named l a e = shape (formed l) (requestOf l) e
   where
-    answered : (q : Request) (r c s : Bool) → ltb 64 (q .sizes .rows) ≡ r → ltb 64 (q .sizes .columns) ≡ c
-        → orElse (r || c) 11 (orElse (not s) 10 (assignmentReply (inOne (q .table)) (q .sizes .rows) (q .sizes .columns) (q .sizes .cost) (ofBits binary64 0))) ≡ given a → Named a
-    answered q true c s f g e = never-given 11 a e
-    answered q false true s f g e = never-given 11 a e
-    answered q false false false f g e = never-given 10 a e
-    answered q false false true f g e = once-named (q .sizes .rows) (q .sizes .columns) a (ltb-false 64 (q .sizes .rows) f) (ltb-false 64 (q .sizes .columns) g)
+    answered : (q : Request) (r c s : Bool) → leb (q .sizes .rows) 64 ≡ r → leb (q .sizes .columns) 64 ≡ c
+        → refuseUnless (r && c) 11 (refuseUnless s 10 (assignmentReply (inOne (q .table)) (q .sizes .rows) (q .sizes .columns) (q .sizes .cost) (ofBits binary64 0))) ≡ given a → Named a
+    answered q false c s f g e = never-given 11 a e
+    answered q true false s f g e = never-given 11 a e
+    answered q true true false f g e = never-given 10 a e
+    answered q true true true f g e = once-named (q .sizes .rows) (q .sizes .columns) a (leb-true (q .sizes .rows) 64 f) (leb-true (q .sizes .columns) 64 g)
         (once-all (inOne (q .table)) (q .sizes .rows) (q .sizes .columns) (q .sizes .cost) (ofBits binary64 0) a e)
 
-    shape : (b : Bool) (o : Option Request) → orElse (not b) 13 (decided o) ≡ given a → Named a
+    shape : (b : Bool) (o : Option Request) → refuseUnless b 13 (decided o) ≡ given a → Named a
     shape false o e = never-given 13 a e
     shape true none e = never-given 13 a e
-    shape true (some q) e = answered q (ltb 64 (q .sizes .rows)) (ltb 64 (q .sizes .columns)) (shaped q) refl refl e
+    shape true (some q) e = answered q (leb (q .sizes .rows) 64) (leb (q .sizes .columns) 64) (shaped q) refl refl e
 
 -- ---- a refusal: 13, 11, 10 or 9
 small : {A : Type 0} (n k : ℕ) → n < 100 → _≡_ {A = Reply A} (refused n) (refused k) → k < 100
@@ -106,24 +106,24 @@ module _ {F : Type 0} (dense : List (List F) → Reply (List (Option ℕ))) (own
 
 call-small : (costs : List Float) (n m : ℕ) (rowCost columnCost : Float) (k : ℕ) → assignmentReply costs n m rowCost columnCost ≡ refused k → k < 100
 unfolding assignmentReply takersReply pairing
-call-small costs n m rowCost columnCost k e = then-small k (takersReply costs n m rowCost columnCost) _ (λ j. go j (ltb 64 n || ltb 64 m) (not (finite rowCost && finite columnCost)) (not (eqb (length costs) (n * m)))) (λ a q f. given-small k _ f) e
+call-small costs n m rowCost columnCost k e = then-small k (takersReply costs n m rowCost columnCost) _ (λ j. go j (leb n 64 && leb m 64) (finite rowCost && finite columnCost) (eqb (length costs) (n * m))) (λ a q f. given-small k _ f) e
   where
-    go : (j : ℕ) (a b c : Bool) → orElse a 11 (orElse b 9 (orElse c 10 (pairing rowCost columnCost (rowsOf n m costs) m))) ≡ refused j → j < 100
-    go j true b c e = small 11 j (omega arith) e
-    go j false true c e = small 9 j (omega arith) e
-    go j false false true e = small 10 j (omega arith) e
-    go j false false false e = groups-small _ (λ table i q. solved-small _ _ i q) _ _ _ _ j e
+    go : (j : ℕ) (a b c : Bool) → refuseUnless a 11 (refuseUnless b 9 (refuseUnless c 10 (pairing rowCost columnCost (rowsOf n m costs) m))) ≡ refused j → j < 100
+    go j false b c e = small 11 j (omega arith) e
+    go j true false c e = small 9 j (omega arith) e
+    go j true true false e = small 10 j (omega arith) e
+    go j true true true e = groups-small _ (λ table i q. solved-small _ _ i q) _ _ _ _ j e
 
 pub refusal-small : (l : List ℕ) (k : ℕ) → replyTo l ≡ refused k → k < 100
 unfolding replyTo decided
 refusal-small l k e = shape (formed l) (requestOf l) e
   where
-    asked : (q : Request) (a b : Bool) → orElse a 11 (orElse b 10 (assignmentReply (inOne (q .table)) (q .sizes .rows) (q .sizes .columns) (q .sizes .cost) (ofBits binary64 0))) ≡ refused k → k < 100
-    asked q true b e = small 11 k (omega arith) e
-    asked q false true e = small 10 k (omega arith) e
-    asked q false false e = call-small (inOne (q .table)) (q .sizes .rows) (q .sizes .columns) (q .sizes .cost) (ofBits binary64 0) k e
+    asked : (q : Request) (a b : Bool) → refuseUnless a 11 (refuseUnless b 10 (assignmentReply (inOne (q .table)) (q .sizes .rows) (q .sizes .columns) (q .sizes .cost) (ofBits binary64 0))) ≡ refused k → k < 100
+    asked q false b e = small 11 k (omega arith) e
+    asked q true false e = small 10 k (omega arith) e
+    asked q true true e = call-small (inOne (q .table)) (q .sizes .rows) (q .sizes .columns) (q .sizes .cost) (ofBits binary64 0) k e
 
-    shape : (b : Bool) (o : Option Request) → orElse (not b) 13 (decided o) ≡ refused k → k < 100
+    shape : (b : Bool) (o : Option Request) → refuseUnless b 13 (decided o) ≡ refused k → k < 100
     shape false o e = small 13 k (omega arith) e
     shape true none e = small 13 k (omega arith) e
-    shape true (some q) e = asked q (ltb 64 (q .sizes .rows) || ltb 64 (q .sizes .columns)) (not (shaped q)) e
+    shape true (some q) e = asked q (leb (q .sizes .rows) 64 && leb (q .sizes .columns) 64) (shaped q) e

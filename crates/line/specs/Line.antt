@@ -1,13 +1,13 @@
 -- The whole line, from bytes to bytes.
-use mathlib.Core.Bool.{Bool, true, false, cond, not, _&&_, _||_}
+use mathlib.Core.Bool.{Bool, false, cond, _&&_}
 use mathlib.Core.Option.{Option, none, some}
 use mathlib.Core.List.{List, [], _∷_}
 use Prim.Native.Nat.{ℕ}
-use lib.Dec.{eqb, ltb}
+use lib.Dec.{eqb, ltb, leb}
 use lib.ListN.{length}
 use lib.Ieee.{binary64, ofBits}
-use Rattle.number.specs.Reply.{Reply, refused, given}
-use Rattle.kuhn_munkres.specs.Assignment.{Pairs, inOne, orElse, assignmentReply}
+use Rattle.number.specs.Reply.{Reply, refused, refuseUnless}
+use Rattle.kuhn_munkres.specs.Assignment.{Pairs, inOne, assignmentReply}
 use Rattle.forms.specs.Shape.{formOf}
 use Rattle.request.specs.Request.{Request, requestOf, shaped}
 use Rattle.text.specs.Text.{textOf}
@@ -27,12 +27,12 @@ formed l = cond (ltb 16384 (length l)) false (whole (formOf 4 l))
 unfoldable pub decided : Option Request → Reply Pairs
 decided none = refused 13
 decided (some q) =
-    orElse (ltb 64 (q .sizes .rows) || ltb 64 (q .sizes .columns)) 11
-    (orElse (not (shaped q)) 10
+    refuseUnless (leb (q .sizes .rows) 64 && leb (q .sizes .columns) 64) 11
+    (refuseUnless (shaped q) 10
     (assignmentReply (inOne (q .table)) (q .sizes .rows) (q .sizes .columns) (q .sizes .cost) (ofBits binary64 0)))
 
 unfoldable pub replyTo : List ℕ → Reply Pairs
-replyTo l = orElse (not (formed l)) 13 (decided (requestOf l))
+replyTo l = refuseUnless (formed l) 13 (decided (requestOf l))
 
 -- what the program writes for the bytes it reads
 unfoldable pub answerOf : List ℕ → List ℕ

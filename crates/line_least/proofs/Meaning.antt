@@ -1,43 +1,30 @@
 -- The answer to a line is, of all pairings of the line's table, one of least total.
 use mathlib.Core.Path.{_≡_, refl, sym, ap, _∙_, subst}
-use mathlib.Core.Bool.{Bool, true, false, cond, not, _&&_, _||_, true≢false}
-use mathlib.Core.List.{List, [], _∷_, _++_}
-use mathlib.Core.Option.{Option, none, some}
-use Prim.Native.Nat.{ℕ, zero, suc, _+_, _*_, _≤_, _<_}
+use mathlib.Core.Bool.{true, false, _&&_}
+use mathlib.Core.List.{List, [], _∷_}
+use mathlib.Core.Option.{some}
+use Prim.Native.Nat.{ℕ, zero, suc, _*_, _≤_, _<_}
 use native.Mathlib.Omega.{arith}
-use borrow.Author.Tests.{ltb-false, eqb-true}
-use lib.Dec.{eqb, ltb}
+use borrow.Author.Tests.{leb-true, eqb-true}
+use lib.Dec.{eqb, leb}
 use lib.ListN.{getD, length, length-append}
 use lib.Ieee.{Float, nan, binary64, ofBits}
-use lib.Ieee.Scale.{finite}
-use Rattle.number.specs.Reply.{Reply, refused, given}
+use Rattle.number.specs.Reply.{given}
+use Rattle.number.proofs.Replies.{past-test}
 use Rattle.number.proofs.Zeros.{both}
-use Rattle.whole.specs.Integer.{Integer, 0Z, Within, _≈_, _≤Z_}
+use Rattle.whole.specs.Integer.{0Z, Within}
 use Rattle.whole.specs.Whole.{WholeValue, wholeOf}
 use Rattle.whole.proofs.Values.{is-whole, whole-same}
 use Rattle.lists.specs.Masks.{Every}
-use Rattle.kuhn_munkres.specs.Assignment.{Pair, Pairs, inOne, orElse, assignmentReply}
-use Rattle.least.specs.Least.{Pairing, total, costAt, allowedIn, WholeCosts, LeastTotal, LeastOnWholes}
+use Rattle.kuhn_munkres.specs.Assignment.{Pairs, inOne, assignmentReply}
+use Rattle.least.specs.Least.{costAt, WholeCosts}
 use Rattle.least.proofs.Sentinel.{Ranged}
 use Rattle.least.proofs.Dense.{one-at}
 use Rattle.least.proofs.Answer.{assignment-least}
 use Rattle.request.specs.Request.{Request, requestOf, even, shaped}
 use Rattle.line.specs.Line.{formed, decided, replyTo}
-use Rattle.line_least.specs.LeastLine.{costsIn, numberAt, PairingOf, totalIn, LeastLine}
+use Rattle.line_least.specs.LeastLine.{costsIn, numberAt, LeastLine}
 use Rattle.line_least.proofs.Ranges.{Fit, Numbers, request-numbers}
-
--- ---- a reply that is given passed its test
-passed : {A : Type 0} (b : Bool) (n : ℕ) (r : Reply A) (a : A) → orElse b n r ≡ given a → (b ≡ false) × (r ≡ given a)
-passed true n r a e = absurd (let z : _≡_ {A = ℕ} 0 1 = cc in omega arith)
-passed false n r a e = (refl, e)
-
-neither : (a b : Bool) → (a || b) ≡ false → (a ≡ false) × (b ≡ false)
-neither true b e = absurd (true≢false e)
-neither false b e = (refl, e)
-
-not-false : (b : Bool) → not b ≡ false → b ≡ true
-not-false true e = refl
-not-false false e = absurd (true≢false e)
 
 -- ---- the table's shape
 even-wide : (w : ℕ) (t : List (List Float)) → even w t ≡ true → (i : ℕ) → i < length t → length (getD t i []) ≡ w
@@ -113,8 +100,8 @@ module _ (q : Request) (N : Numbers q) (few-rows : q .sizes .rows ≤ 64) (few-c
 pub line-least : (l : List ℕ) (q : Request) (a : Pairs) → requestOf l ≡ some q → replyTo l ≡ given a → LeastLine q a
 unfolding replyTo decided
 line-least l q a r e =
-    let x = passed (not (formed l)) 13 (decided (requestOf l)) a e in
-    let y = passed (ltb 64 (q .sizes .rows) || ltb 64 (q .sizes .columns)) 11 _ a (rw r at (x .1)) in
-    let z = passed (not (shaped q)) 10 _ a (y .1) in
-    let f = neither (ltb 64 (q .sizes .rows)) (ltb 64 (q .sizes .columns)) (y .0) in
-    least-of q (request-numbers l q r) (ltb-false 64 (q .sizes .rows) (f .0)) (ltb-false 64 (q .sizes .columns) (f .1)) (not-false (shaped q) (z .0)) a (z .1)
+    let x = past-test (formed l) 13 (decided (requestOf l)) a e in
+    let y = past-test (leb (q .sizes .rows) 64 && leb (q .sizes .columns) 64) 11 _ a (rw r at (x .1)) in
+    let z = past-test (shaped q) 10 _ a (y .1) in
+    let f = both (leb (q .sizes .rows) 64) (leb (q .sizes .columns) 64) (y .0) in
+    least-of q (request-numbers l q r) (leb-true (q .sizes .rows) 64 (f .0)) (leb-true (q .sizes .columns) 64 (f .1)) (z .0) a (z .1)

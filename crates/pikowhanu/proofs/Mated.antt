@@ -1,25 +1,23 @@
 -- The whole reply of the call, from the assignment's answer. Assumes nothing.
 use mathlib.Core.Path.{_≡_, refl, sym, ap, _∙_}
-use mathlib.Core.Bool.{Bool}
-use mathlib.Core.List.{List, map}
+use mathlib.Core.List.{List}
 use mathlib.Core.Option.{Option}
 use Prim.Native.Nat.{ℕ, _≤_, _<_}
 use native.Mathlib.Omega.{arith}
-use borrow.Author.Tests.{lt-ltb, le-ltb}
+use borrow.Author.Tests.{lt-leb, le-leb}
 use lib.ListN.{length}
 use lib.Ieee.{Float}
-use Rattle.number.specs.Reply.{Reply, refused, given, codeOf, andThen}
-use Rattle.kuhn_munkres.specs.Assignment.{Pairs, pairsOf, pairsFrom, orElse, takersReply, assignmentReply}
+use Rattle.number.specs.Reply.{Reply, refused, given, andThen}
+use Rattle.kuhn_munkres.specs.Assignment.{Pairs, pairsOf, pairsFrom, takersReply, assignmentReply}
 use Rattle.least.specs.Least.{LeastOnWholes}
 use Rattle.least.proofs.Answer.{assignment-least}
-use Rattle.assignment.specs.Listing.{padded, rowOf, columnIn, assignmentOf, assignmentFor, pairsIn, AssignmentAnswer}
+use Rattle.assignment.specs.Listing.{assignmentOf, assignmentFor, pairsIn, AssignmentAnswer}
 use Rattle.assignment.specs.Replies.{replyOf}
 use Rattle.assignment.specs.declared.Assignment.{Assignment}
 use Rattle.assignment.specs.declared.Assigned.{Assigned}
-use Rattle.assignment.specs.declared.Outcome.{Outcome}
 use Rattle.assignment.specs.declared.Outcome.the-variants.{Given}
 use Rattle.assignment.proofs.Answers.{few, told}
-use Rattle.pikowhanu.specs.Mates.{matesReply, matesAfter, AssignmentCall, PairsHeld, MatesWritten}
+use Rattle.pikowhanu.specs.Mates.{matesReply, AssignmentCall, PairsHeld, MatesWritten}
 use Rattle.pikowhanu.proofs.Walks.{few-pairs}
 
 module _ (costs : List Float) (n m : ℕ) (rowCost columnCost : Float) where
@@ -65,7 +63,7 @@ module _ (costs : List Float) (n m : ℕ) (rowCost columnCost : Float) where
   module _ (before : List ℕ) where
     enough : n ≤ length before → matesReply costs n m rowCost columnCost (length before) ≡ reply
     unfolding matesReply
-    enough h = rw (le-ltb (length before) n h)
+    enough h = rw (le-leb n (length before) h)
 
     -- where there is room, the call answers as the assignment does
     least-call : n ≤ length before → LeastOnWholes costs n m rowCost columnCost (matesReply costs n m rowCost columnCost (length before))
@@ -77,7 +75,7 @@ module _ (costs : List Float) (n m : ℕ) (rowCost columnCost : Float) where
 
     -- no room
     pub call-short : length before < n → AssignmentCall costs n m rowCost columnCost 11 before before
-    call-short h = declined 11 (unfold matesReply in (rw (lt-ltb (length before) n h)))
+    call-short h = declined 11 (unfold matesReply in (rw (lt-leb n (length before) h)))
 
     pub call-refused : (k : ℕ) (r : Assigned) → n ≤ length before → AssignmentAnswer costs n m rowCost columnCost r → ((p : Pairs) → replyOf (r .outcome) p ≡ refused k) → AssignmentCall costs n m rowCost columnCost k before before
     call-refused k r h w o = declined k (enough h ∙ sym (w .is) ∙ o (pairsIn (r .assignment)))

@@ -1,15 +1,15 @@
 -- The assignment as a C caller sees it: for each row the column that it is paired with.
 use mathlib.Core.Path.{_≡_}
-use mathlib.Core.Bool.{Bool, true, false, cond, _&&_}
+use mathlib.Core.Bool.{Bool, cond, _&&_}
 use mathlib.Core.List.{List, [], _∷_, _++_, map}
 use mathlib.Core.Option.{Option}
 use Prim.Native.Nat.{ℕ, zero, suc, _≤_}
 use lib.ListN.{length, getD}
-use lib.Dec.{eqb, ltb}
+use lib.Dec.{eqb, ltb, leb}
 use lib.Ieee.{Float}
-use Rattle.number.specs.Reply.{Reply, refused, given, codeOf}
+use Rattle.number.specs.Reply.{Reply, refused, given, codeOf, refuseUnless}
 use Rattle.lists.specs.Lay.{lay}
-use Rattle.kuhn_munkres.specs.Assignment.{Pair, Pairs, pairsFrom, orElse, assignmentReply}
+use Rattle.kuhn_munkres.specs.Assignment.{Pair, Pairs, pairsFrom, assignmentReply}
 use Rattle.least.specs.Least.{LeastOnWholes}
 use Rattle.assignment.specs.Listing.{padded, rowOf, columnIn}
 
@@ -29,7 +29,7 @@ matesOf l (suc n) = matesOf l n ++ (mateOf l n ∷ [])
 
 -- What the call answers: 11 also where there is no room for each row's mate, before 9 and 10.
 unfoldable pub matesReply : List Float → ℕ → ℕ → Float → Float → ℕ → Reply Pairs
-matesReply costs n m rowCost columnCost room = orElse (ltb room n) 11 (assignmentReply costs n m rowCost columnCost)
+matesReply costs n m rowCost columnCost room = refuseUnless (leb n room) 11 (assignmentReply costs n m rowCost columnCost)
 
 -- 01, What each call declines: "A refusal answers its number and changes nothing lent or held." Otherwise the first n places have the rows' mates, and those
 -- behind them are as they were.
