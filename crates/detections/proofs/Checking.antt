@@ -1,20 +1,14 @@
 -- What the tests on the way of a detection's check say of its definition, and what a detection that passes it has. Assumes nothing.
-use mathlib.Core.Path.{_≡_, refl, sym}
-use mathlib.Core.Bool.{Bool, true, false, _&&_}
-use Prim.Native.Nat.{ℕ}
-use native.Mathlib.Omega.{arith}
-use Rattle.number.specs.Reply.{Reply, refused, given, refuseUnless}
+use mathlib.Core.Path.{_≡_, sym}
+use mathlib.Core.Bool.{true, false, _&&_}
+use Rattle.number.specs.Reply.{refused, given}
+use Rattle.number.proofs.Replies.{past-test}
 use Rattle.number.proofs.Zeros.{both}
 use Rattle.matrix.specs.Flat.{rowsOf}
 use Rattle.finite.specs.Finite.{finiteVector}
 use Rattle.math.specs.Linalg.{validated}
 use Rattle.detections.specs.declared.Detection.{Detection}
 use Rattle.detections.specs.Detection.{finiteVelocity, detectionReply}
-
--- a value that is given was behind a test that held
-past-test : {A : Type 0} {a : A} (b : Bool) (n : ℕ) (r : Reply A) → refuseUnless b n r ≡ given a → (b ≡ true) × (r ≡ given a)
-past-test true n r e = (refl, e)
-past-test false n r e = absurd (let z : _≡_ {A = ℕ} 0 1 = cc in omega arith)
 
 module _ (d : Detection) where
   pub covariance-decides : (finiteVector 3 (d .position) && finiteVelocity (d .velocity)) ≡ true → validated 3 (rowsOf 3 3 (d .covariance)) ≡ detectionReply d
@@ -28,7 +22,7 @@ module _ (d : Detection) where
   module _ (passed : detectionReply d ≡ given tt) where
     finite-parts : (finiteVector 3 (d .position) ≡ true) × (finiteVelocity (d .velocity) ≡ true)
     unfolding detectionReply
-    finite-parts = both (finiteVector 3 (d .position)) (finiteVelocity (d .velocity)) (past-test _ 5 _ passed .0)
+    finite-parts = both (finiteVector 3 (d .position)) (finiteVelocity (d .velocity)) (past-test (finiteVector 3 (d .position) && finiteVelocity (d .velocity)) 5 _ tt passed .0)
 
     pub finite-position : finiteVector 3 (d .position) ≡ true
     finite-position = finite-parts .0
@@ -38,4 +32,4 @@ module _ (d : Detection) where
 
     pub valid-covariance : given tt ≡ validated 3 (rowsOf 3 3 (d .covariance))
     unfolding detectionReply
-    valid-covariance = sym (past-test (finiteVector 3 (d .position) && finiteVelocity (d .velocity)) 5 _ passed .1)
+    valid-covariance = sym (past-test (finiteVector 3 (d .position) && finiteVelocity (d .velocity)) 5 _ tt passed .1)

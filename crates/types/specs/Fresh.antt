@@ -2,12 +2,12 @@
 use mathlib.Core.Bool.{false}
 use mathlib.Core.List.{[]}
 use mathlib.Core.Option.{none}
-use lib.Ieee.{Float, binary64, ofBits}
 use lib.IntN.{pos}
 use lib.ListN.{replicate}
 use Rattle.lifecycle.specs.Lifecycle.{newOf}
 use Rattle.lifecycle.specs.declared.Observation.the-variants.{Never}
 use Rattle.settings.specs.declared.Cartesian3DTrackerConfig.{Cartesian3DTrackerConfig}
+use Rattle.matrix.specs.Matrix.{nought}
 use Rattle.detections.specs.declared.Class.the-variants.{Unknown}
 use Rattle.detections.specs.declared.pairs.ClassPrior.the-variants.{NoPrior}
 use Rattle.types.specs.declared.track.UpdateSensor.the-variants.{Nobody}
@@ -22,9 +22,6 @@ abbrev pub freshState : State
 freshState = record { tracks = []; next = 1; last = none; sequences = []; candidates = [] }
 
 -- ---- the whole struct, with what stands in the places that nothing has taken
-
-abbrev pub nought : Float
-nought = ofBits binary64 0
 
 abbrev pub blankTrack : Track3D
 blankTrack =
