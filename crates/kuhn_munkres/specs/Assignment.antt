@@ -49,12 +49,12 @@ takerOf n zero = none
 takerOf n (suc i) = cond (ltb i n) (some i) none
 
 -- 01, Assignment (refusals): "10 .. a step not finite". That the turns are never spent is a law (proofs/Ends).
-unfoldable pub takersIn : {N : Type 0} → Square N → Search N → Reply (Takers)
+unfoldable pub takersIn : {N : Type 0} → Square N → Search N → Reply Takers
 takersIn q (found s) = given (map (takerOf (q .rows)) (take (q .cols) (drop 1 (s .p))))
 takersIn q stopped = refused 10
 takersIn q spent = refused 10
 
-unfoldable pub solved : {N : Type 0} → Ops N → Square N → Reply (Takers)
+unfoldable pub solved : {N : Type 0} → Ops N → Square N → Reply Takers
 solved O q = takersIn q (rows O (entry O q) (q .rows + q .cols) (q .rows + q .cols))
 
 abbrev pub widthOf : {F : Type 0} → List (List F) → ℕ
@@ -72,27 +72,27 @@ named names (some i) = some (getD names i 0)
 abbrev pub same : Bool → Bool
 same b = b
 
-module _ {F : Type 0} (dense : List (List F) → Reply (Takers)) where
+module _ {F : Type 0} (dense : List (List F) → Reply Takers) where
   -- one group, of the rows and columns that the masks name: nothing where it has no column
-  unfoldable pub groupIn : Bool → List (List F) → List ℕ → List Bool → List Bool → Takers → Reply (Takers)
+  unfoldable pub groupIn : Bool → List (List F) → List ℕ → List Bool → List Bool → Takers → Reply Takers
   groupIn false rows names rm cm t = given t
   groupIn true rows names rm cm t = andThen (dense (map (leftBy cm) (leftBy rm rows))) (λ own. given (spread cm (map (named (leftBy rm names)) own) t))
 
   -- group after group, each put at its own columns
-  unfoldable pub groups : List (List F) → Labels → List ℕ → Takers → Reply (Takers)
+  unfoldable pub groups : List (List F) → Labels → List ℕ → Takers → Reply Takers
   groups rows s [] t = given t
   groups rows s (g ∷ gs) t = let cm = map (isLabel g) (s .ofColumns) in
       andThen (groupIn (any same cm) rows (upFrom zero rows) (map (eqb g) (s .ofRows)) cm t) (groups rows s gs)
 
 -- the row that takes each of n columns of a table, or none
-unfoldable pub pairing : Float → Float → List (List Float) → ℕ → Reply (Takers)
+unfoldable pub pairing : Float → Float → List (List Float) → ℕ → Reply Takers
 pairing rowCost columnCost rows n =
     let far = sentinelOf (largestOf (largerOf rowCost columnCost) rows) in
     groups (λ table. solved float (squareOf far rowCost columnCost table)) rows (labels finite rows n) (upFrom zero rows) (replicate n none)
 
 -- ---- the call
 -- 01, Assignment (refusals): "11 over 64 rows or columns; 9 an unmatched cost not finite; 10 table length isn't rows × columns, or a step not finite."
-unfoldable pub takersReply : List Float → ℕ → ℕ → Float → Float → Reply (Takers)
+unfoldable pub takersReply : List Float → ℕ → ℕ → Float → Float → Reply Takers
 takersReply costs n m rowCost columnCost =
     refuseUnless (leb n 64 && leb m 64) 11
     (refuseUnless (finite rowCost && finite columnCost) 9
