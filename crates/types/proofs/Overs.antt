@@ -1,13 +1,15 @@
 -- What a list laid over a table leaves in the tracker, and in a report; the state of a fresh tracker. Assumes nothing.
 use mathlib.Core.Path.{_≡_, refl}
 use mathlib.Core.List.{List}
+use mathlib.Core.Option.{Option, none, some}
 use Prim.Native.Nat.{ℕ}
 use lib.Dec.{ltb}
+use lib.IntN.{ℤ}
 use lib.ListN.{length}
 use Rattle.lists.proofs.Laying.{take-lay}
 use Rattle.lists.proofs.Tables.{count-room}
-use Rattle.types.specs.States.{State, stateWith, stateOf, tracksOf, sequencesOf, candidatesOf, overTracks, overSequences, overCandidates}
-use Rattle.types.specs.Batches.{reportOf, overReport}
+use Rattle.types.specs.States.{State, stateWith, stateOf, tracksOf, sequencesOf, candidatesOf, overTracks, overSequences, overCandidates, timeOf, lastTimeOf, overState}
+use Rattle.types.specs.Batches.{Report, reportOf, overReport, wholeReport}
 use Rattle.types.specs.declared.batch.ObservationAssociation.{ObservationAssociation}
 use Rattle.types.specs.declared.batch.BatchReport3D.{BatchReport3D}
 use Rattle.types.specs.Fresh.{freshState, freshOf}
@@ -45,10 +47,28 @@ pub state-over-candidates : (s : Cartesian3DTracker) (l : List BirthCandidate) �
 unfolding stateOf tracksOf sequencesOf overCandidates
 state-over-candidates s l = rw (candidates-over s l)
 
+-- ---- a whole state, and a whole report
+
+time-back : (o : Option ℤ) → timeOf (lastTimeOf o) ≡ o
+time-back none = refl
+time-back (some t) = refl
+
+pub state-over : (s : Cartesian3DTracker) (x : State) → stateOf (overState s x) ≡ x
+unfolding stateOf tracksOf sequencesOf candidatesOf overState
+state-over s x = rw (take-lay (x .tracks) (s .tracks), take-lay (x .sequences) (s .sequences), take-lay (x .candidates) (s .candidates), time-back (x .last))
+
+pub settings-over : (s : Cartesian3DTracker) (x : State) → overState s x .config ≡ s .config
+unfolding overState
+settings-over s x = refl
+
 pub report-over : (r : BatchReport3D) (l : List ObservationAssociation) (ids : List ℕ)
     → reportOf (overReport r l ids) ≡ record { time = r .timestamp; sensor = r .«sensor_id»; associations = l; unmatched = ids }
 unfolding reportOf overReport
 report-over r l ids = rw (take-lay l (r .associations), take-lay ids (r .«unmatched_track_ids»))
+
+pub report-back : (r : Report) → reportOf (wholeReport r) ≡ r
+unfolding wholeReport
+report-back r = report-over _ (r .associations) (r .unmatched)
 
 -- ---- whether there is room for one more, by the count
 

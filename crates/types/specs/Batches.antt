@@ -1,13 +1,16 @@
 -- A batch and a report with lists in the place of arrays with a count.
 use Prim.Native.Nat.{ℕ}
 use mathlib.Core.List.{List}
-use lib.IntN.{ℤ}
-use lib.ListN.{length, take}
+use lib.IntN.{ℤ, pos}
+use lib.ListN.{length, take, replicate}
 use Rattle.lists.specs.Lay.{lay}
 use Rattle.settings.specs.declared.frame.FrameName.{FrameName}
 use Rattle.detections.specs.declared.Detection.{Detection}
 use Rattle.types.specs.declared.batch.ObservationBatch3D.{ObservationBatch3D}
+use Rattle.settings.specs.declared.optional.OptionalF64.the-variants as f64
 use Rattle.types.specs.declared.batch.ObservationAssociation.{ObservationAssociation}
+use Rattle.types.specs.declared.batch.ObservationOutcome.the-variants.{Unmatched}
+use Rattle.types.specs.declared.batch.AssociatedTrack.the-variants as track
 use Rattle.types.specs.declared.batch.BatchReport3D.{BatchReport3D}
 
 pub record Batch : Type 0 where
@@ -47,3 +50,28 @@ overReport r l ids =
       «unmatched_track_ids» = lay ids (r .«unmatched_track_ids»);
       «unmatched_track_count» = length ids;
     }
+
+-- ---- the whole report of a call
+
+abbrev pub blankAssociation : ObservationAssociation
+blankAssociation = record { «observation_index» = 0; «track_id» = track.None; outcome = Unmatched; cost = f64.None }
+
+-- a report of nothing, of a time and a sensor
+abbrev pub emptyReport : ℤ → ℕ → BatchReport3D
+emptyReport time sensor =
+    record {
+      timestamp = time;
+      «sensor_id» = sensor;
+      associations = replicate 64 blankAssociation;
+      «association_count» = 0;
+      «unmatched_track_ids» = replicate 64 0;
+      «unmatched_track_count» = 0;
+    }
+
+-- the report beside a refusal; 01 leaves it open
+abbrev pub blankReport : BatchReport3D
+blankReport = emptyReport (pos 0) 0
+
+-- a report with blanks behind its lists
+unfoldable pub wholeReport : Report → BatchReport3D
+wholeReport r = overReport (emptyReport (r .time) (r .sensor)) (r .associations) (r .unmatched)

@@ -24,6 +24,10 @@ abbrev pub timeOf : Observation → Option ℤ
 timeOf Never = none
 timeOf (At t) = some t
 
+abbrev pub lastTimeOf : Option ℤ → Observation
+lastTimeOf none = Never
+lastTimeOf (some t) = At t
+
 -- the first places of each table, whatever its count says
 unfoldable pub tracksOf : Cartesian3DTracker → List Track3D
 tracksOf s = take (s .«track_count») (s .tracks)
@@ -50,20 +54,23 @@ stateWith tracks sequences candidates s = record { tracks = tracks; next = s .ne
 
 -- ---- a list in the place of a table: the places behind it are as they were
 
--- the one place that builds a tracker anew: its tables, and the rest as s has it
-abbrev pub withTables : Table Track3D → Table SensorSequence → Table BirthCandidate → Cartesian3DTracker → Cartesian3DTracker
-withTables tracks sequences candidates s =
+-- the one place that builds a tracker anew: what calls change, and the settings as s has them
+abbrev pub withParts : ℕ → Observation → Table Track3D → Table SensorSequence → Table BirthCandidate → Cartesian3DTracker → Cartesian3DTracker
+withParts next last tracks sequences candidates s =
     record {
       tracks = tracks .array;
       «track_count» = tracks .count;
-      «next_track_id» = s .«next_track_id»;
-      «last_time» = s .«last_time»;
+      «next_track_id» = next;
+      «last_time» = last;
       sequences = sequences .array;
       «sequence_count» = sequences .count;
       candidates = candidates .array;
       «candidate_count» = candidates .count;
       config = s .config;
     }
+
+abbrev pub withTables : Table Track3D → Table SensorSequence → Table BirthCandidate → Cartesian3DTracker → Cartesian3DTracker
+withTables tracks sequences candidates s = withParts (s .«next_track_id») (s .«last_time») tracks sequences candidates s
 
 abbrev pub trackTable : Cartesian3DTracker → Table Track3D
 trackTable s = table (s .tracks) (s .«track_count»)
@@ -82,3 +89,7 @@ overSequences s l = withTables (trackTable s) (overTable l (s .sequences)) (cand
 
 unfoldable pub overCandidates : Cartesian3DTracker → List BirthCandidate → Cartesian3DTracker
 overCandidates s l = withTables (trackTable s) (sequenceTable s) (overTable l (s .candidates)) s
+
+-- A whole state laid over a tracker: its lists in the first places of the tables, their lengths as counts; the places behind them and the settings are as s has them.
+unfoldable pub overState : Cartesian3DTracker → State → Cartesian3DTracker
+overState s x = withParts (x .next) (lastTimeOf (x .last)) (overTable (x .tracks) (s .tracks)) (overTable (x .sequences) (s .sequences)) (overTable (x .candidates) (s .candidates)) s

@@ -46,6 +46,12 @@ pub struct Track3DSnapshot {
     pub covariance: [f64; 36],
 }
 
+// What is shown of all tracks, in the table's order: the first `count` places.
+pub struct Snapshots {
+    pub items: [Track3DSnapshot; super::MAX_TRACKS],
+    pub count: usize,
+}
+
 pub fn with_filter(mut t: Track3D, filter: KalmanFilter) -> Track3D
     ensures { λ r. ⌜ r ≡ withFilter filter t ⌝ }
 {

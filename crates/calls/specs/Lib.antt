@@ -1,0 +1,10 @@
+pub mod Predict
+pub mod Pairing
+pub mod Update
+pub mod Births
+pub mod Process
+pub mod Prior
+pub mod Snapshots
+pub mod Run
+pub mod Numbers
+pub mod Answers
