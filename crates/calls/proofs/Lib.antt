@@ -6,3 +6,4 @@ pub mod Turns
 pub mod Numbers
 pub mod Accepted
 pub mod Answering
+pub mod Edges

@@ -28,10 +28,11 @@ label-out g (true ∷ k) (o ∷ cols) h = label-out g k cols h
 label-out g (false ∷ k) (o ∷ cols) h = (rw (h .0) (unfold isLabel in refl), label-out g k cols (h .1))
 
 -- ---- the largest cost
-abbrev pub Far : Float → Type 0
-Far x = finite x ≡ false
+-- a cost that forbids the pair
+abbrev pub NoCost : Float → Type 0
+NoCost x = finite x ≡ false
 
-largest-left : (k : List Bool) (m : Float) (row : List Float) → Struck Far k row → largest m (leftBy k row) ≡ largest m row
+largest-left : (k : List Bool) (m : Float) (row : List Float) → Struck NoCost k row → largest m (leftBy k row) ≡ largest m row
 unfolding leftBy Struck largest
 largest-left [] m [] h = refl
 largest-left [] m (x ∷ row) h = absurd h
@@ -39,13 +40,13 @@ largest-left (c ∷ k) m [] h = absurd h
 largest-left (true ∷ k) m (x ∷ row) h = largest-left k _ row h
 largest-left (false ∷ k) m (x ∷ row) h = largest-left k m row (h .1) ∙ ap (λ (b : Bool). largest (cond b (largerOf m x) m) row) (sym (h .0))
 
-largestOf-left : (k : List Bool) (m : Float) (rows : List (List Float)) → Every (Struck Far k) rows → largestOf m (map (leftBy k) rows) ≡ largestOf m rows
+largestOf-left : (k : List Bool) (m : Float) (rows : List (List Float)) → Every (Struck NoCost k) rows → largestOf m (map (leftBy k) rows) ≡ largestOf m rows
 unfolding Every largestOf
 largestOf-left k m [] h = refl
 largestOf-left k m (r ∷ rows) h = largestOf-left k _ rows (h .1) ∙ ap (λ (x : Float). largestOf x rows) (largest-left k m r (h .0))
 
 -- ---- the groups
-hits-left : (k : List Bool) (row : List Float) (cols : List (Option ℕ)) → Struck Far k row → Struck Absent k cols → hits finite (leftBy k row) (leftBy k cols) ≡ hits finite row cols
+hits-left : (k : List Bool) (row : List Float) (cols : List (Option ℕ)) → Struck NoCost k row → Struck Absent k cols → hits finite (leftBy k row) (leftBy k cols) ≡ hits finite row cols
 unfolding leftBy Struck hits hit
 hits-left [] [] cols h g = refl
 hits-left [] (x ∷ row) cols h g = absurd h
@@ -54,7 +55,7 @@ hits-left (c ∷ k) (x ∷ row) [] h g = absurd g
 hits-left (true ∷ k) (x ∷ row) (o ∷ cols) h g = ap (hit (finite x) o) (hits-left k row cols h g)
 hits-left (false ∷ k) (x ∷ row) (o ∷ cols) h g = rw (h .0) (hits-left k row cols (h .1) (g .1))
 
-joined-absent : (hs : List ℕ) (i : ℕ) (k : List Bool) (row : List Float) (cols : List (Option ℕ)) → Struck Far k row → Struck Absent k cols → Struck Absent k (zipped (joinedTo finite hs i) row cols)
+joined-absent : (hs : List ℕ) (i : ℕ) (k : List Bool) (row : List Float) (cols : List (Option ℕ)) → Struck NoCost k row → Struck Absent k cols → Struck Absent k (zipped (joinedTo finite hs i) row cols)
 unfolding Struck zipped
 joined-absent hs i [] [] cols h g = tt
 joined-absent hs i [] (x ∷ row) cols h g = absurd h
@@ -66,7 +67,7 @@ joined-absent hs i (false ∷ k) (x ∷ row) (o ∷ cols) h g = (unfold joinedTo
 struckLabels : List Bool → Labels → Labels
 struckLabels k s = record { ofRows = s .ofRows; ofColumns = leftBy k (s .ofColumns) }
 
-joins-left : (k : List Bool) (i : ℕ) (rows : List (List Float)) (s : Labels) → Every (Struck Far k) rows → Struck Absent k (s .ofColumns)
+joins-left : (k : List Bool) (i : ℕ) (rows : List (List Float)) (s : Labels) → Every (Struck NoCost k) rows → Struck Absent k (s .ofColumns)
     → (joins finite i (map (leftBy k) rows) (struckLabels k s) ≡ struckLabels k (joins finite i rows s)) × Struck Absent k (joins finite i rows s .ofColumns)
 unfolding Every joins
 joins-left k i [] s h g = (refl, g)
@@ -106,7 +107,7 @@ module _ (dense : List (List Float) → Reply (List (Option ℕ))) (k : List Boo
       (rw (map-left (isLabel l) k (s .ofColumns), clear-any k cm out, upFrom-map (leftBy k) zero rows) (then-given _ _ (leftBy k (p .0)) (q .0) ∙ r .0), r .1)
 
 -- the law: the struck columns may pair with no row
-pub far-columns : (rowCost columnCost : Float) (k : List Bool) (rows : List (List Float)) (takers : List (Option ℕ)) → Every (Struck Far k) rows → pairing rowCost columnCost rows (length k) ≡ given takers
+pub far-columns : (rowCost columnCost : Float) (k : List Bool) (rows : List (List Float)) (takers : List (Option ℕ)) → Every (Struck NoCost k) rows → pairing rowCost columnCost rows (length k) ≡ given takers
     → (pairing rowCost columnCost (map (leftBy k) rows) (count k) ≡ given (leftBy k takers)) × Struck Absent k takers
 unfolding pairing labels struckLabels
 far-columns rowCost columnCost k rows takers h e =

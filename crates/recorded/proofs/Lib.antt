@@ -1,0 +1,4 @@
+pub mod Opened
+pub mod Edges
+pub mod Instance
+pub mod Sequences

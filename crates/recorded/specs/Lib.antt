@@ -1,0 +1,4 @@
+pub mod Trace
+pub mod Edges
+pub mod Instance
+pub mod Sequences
