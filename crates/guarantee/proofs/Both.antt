@@ -44,7 +44,7 @@ module _ (c : Cartesian3DTrackerConfig) (s : State) (sensor : ℕ) (now : ℤ) w
     tells : x .report .associations ≡ associationsFrom 0 (born .fates)
     unmatched : x .report .unmatched ≡ made .unmatched
 
-  module _ (ka kb : List Bool) (ds es : List Detection) (x y : Done)
+  module _ (ka kb : List Bool) {ds es : List Detection} {x y : Done}
       (farA : Struck (FarAt c s now) ka ds) (farB : Struck (FarAt c s now) kb es) (common : leftBy ka ds ≡ leftBy kb es) (f : Course ds x) (g : Course es y) where
     -- without the far ones both are one batch
     one : struckColumns c sensor now ka (f .made) ≡ struckColumns c sensor now kb (g .made)
@@ -151,12 +151,12 @@ module _ (c : Cartesian3DTrackerConfig) (s : State) where
       let g : Course c s (a .«sensor_id») (a .timestamp) (detectionsOf b) y = rw (d .sensor, d .time) (course b y q) in
       let far : Struck (FarAt c s (a .timestamp)) (d .inB) (detectionsOf b) = rw (d .time) (d .farB) in
       record {
-        tellsA = tellsA c s (a .«sensor_id») (a .timestamp) (d .inA) (d .inB) (detectionsOf a) (detectionsOf b) x y (d .farA) far (d .common) f g;
-        tellsB = tellsB c s (a .«sensor_id») (a .timestamp) (d .inA) (d .inB) (detectionsOf a) (detectionsOf b) x y (d .farA) far (d .common) f g;
-        standing = λ t m. standing c s (a .«sensor_id») (a .timestamp) (d .inA) (d .inB) (detectionsOf a) (detectionsOf b) x y (d .farA) far (d .common) f g (t .id) (below t m);
-        updates = updates c s (a .«sensor_id») (a .timestamp) (d .inA) (d .inB) (detectionsOf a) (detectionsOf b) x y (d .farA) far (d .common) f g;
-        unmatched = same-unmatched c s (a .«sensor_id») (a .timestamp) (d .inA) (d .inB) (detectionsOf a) (detectionsOf b) x y (d .farA) far (d .common) f g;
-        begins = begins c s (a .«sensor_id») (a .timestamp) (d .inA) (d .inB) (detectionsOf a) (detectionsOf b) x y (d .farA) far (d .common) f g;
-        begun = begun c s (a .«sensor_id») (a .timestamp) (d .inA) (d .inB) (detectionsOf a) (detectionsOf b) x y (d .farA) far (d .common) f g;
-        said = said c s (a .«sensor_id») (a .timestamp) (d .inA) (d .inB) (detectionsOf a) (detectionsOf b) x y (d .farA) far (d .common) f g;
+        tellsA = tellsA c s (a .«sensor_id») (a .timestamp) (d .inA) (d .inB) (d .farA) far (d .common) f g;
+        tellsB = tellsB c s (a .«sensor_id») (a .timestamp) (d .inA) (d .inB) (d .farA) far (d .common) f g;
+        standing = λ t m. standing c s (a .«sensor_id») (a .timestamp) (d .inA) (d .inB) (d .farA) far (d .common) f g (t .id) (below t m);
+        updates = updates c s (a .«sensor_id») (a .timestamp) (d .inA) (d .inB) (d .farA) far (d .common) f g;
+        unmatched = same-unmatched c s (a .«sensor_id») (a .timestamp) (d .inA) (d .inB) (d .farA) far (d .common) f g;
+        begins = begins c s (a .«sensor_id») (a .timestamp) (d .inA) (d .inB) (d .farA) far (d .common) f g;
+        begun = begun c s (a .«sensor_id») (a .timestamp) (d .inA) (d .inB) (d .farA) far (d .common) f g;
+        said = said c s (a .«sensor_id») (a .timestamp) (d .inA) (d .inB) (d .farA) far (d .common) f g;
       }

@@ -58,7 +58,7 @@ upFrom-long i (x ∷ l) (y ∷ m) e = ap {B = List ℕ} (λ r. i ∷ r) (upFrom-
 pub report-tells : (ds : List Detection) (r : Report) (l : List Fate) → r .associations ≡ associationsFrom 0 l → length l ≡ length ds → Tells ds r
 report-tells ds r l e n =
     record {
-      each = ap length e ∙ associations-length 0 l ∙ n;
+      oneForEach = ap length e ∙ associations-length 0 l ∙ n;
       inOrder = ap (map (λ (a : ObservationAssociation). a .«observation_index»)) e ∙ associations-order 0 l ∙ upFrom-long 0 l ds n;
       plain = rw e (associations-plain 0 l);
     }

@@ -62,7 +62,7 @@ module _ (c : Cartesian3DTrackerConfig) where
   FarAt s now d = (ts : List Track3D) → predictedTracks c now (s .tracks) ≡ given ts → Far (pairConfig c) (map targetFor ts) d
 
   -- "Two batches differ only by far detections when all else in them is equal and striking some far ones from each, or none, leaves the same detections, bit for
-  -- bit and in the same order." The sequence and the frame are here for these words: the proof has no need of them.
+  -- bit and in the same order." The sequence and the frame are here for these words: the proof has no need of them. What stands behind a batch's count is no part of it.
   pub record DifferByFar (s : State) (a b : ObservationBatch3D) : Type 0 where
     pub sensor : a .«sensor_id» ≡ b .«sensor_id»
     pub sequence : a .sequence ≡ b .sequence
@@ -121,7 +121,7 @@ isPlain Unmatched (track.Id n) cost = false
 -- A report on these detections: one association for each, in their order, of one of the three forms. So what a mask leaves of the associations is what is said of the detections
 -- that it leaves.
 pub record Tells (ds : List Detection) (r : Report) : Type 0 where
-  pub each : length (r .associations) ≡ length ds
+  pub oneForEach : length (r .associations) ≡ length ds
   pub inOrder : map (λ a. a .«observation_index») (r .associations) ≡ upFrom 0 ds
   pub plain : Every (λ a. isPlain (a .outcome) (a .«track_id») (a .cost) ≡ true) (r .associations)
 
@@ -133,7 +133,8 @@ module _ (c : Cartesian3DTrackerConfig) where
     pub tellsA : Tells (detectionsOf a) (x .report)
     pub tellsB : Tells (detectionsOf b) (y .report)
     -- Demand 3: "Then every track standing before is kept in both or dropped in both, and if kept ends with the same bits." A track standing before is a term of 01's own: "A track
-    -- standing before is one in the table before the batch; the same track is the one of the same number. The same bits means every field of the record."
+    -- standing before is one in the table before the batch; the same track is the one of the same number. The same bits means every field of the record." `trackOf` gives the whole
+    -- record of that number, or none: then the track was dropped.
     pub standing : (t : Track3D) → List·Memᴰ t (s .tracks) → trackOf (t .id) (x .state .tracks) ≡ trackOf (t .id) (y .state .tracks)
     -- "Every common detection updates a track in both or in neither, and where it does, the same one at the same cost, bit for bit."
     pub updates : map updateOf (leftBy (d .inA) (x .report .associations)) ≡ map updateOf (leftBy (d .inB) (y .report .associations))
@@ -150,7 +151,8 @@ module _ (c : Cartesian3DTrackerConfig) where
   -- ---- the core, on lists
 
   -- "It holds for every list of the calls .., refused ones included, in any order and with any arguments"; "Each call gets the state that the one before gave back (after a
-  -- refusal, the old one) .. and the state after the list goes to both batches; an empty list leaves the fresh one."
+  -- refusal, the old one) .. and the state after the list goes to both batches; an empty list leaves the fresh one. A call added later on the same state joins the list": it joins
+  -- `Call` and `run` of calls, and this claim then speaks of it too.
   abbrev pub UndisturbedFrom : State → Type 0
   UndisturbedFrom s₀ = (calls : List Call) (a b : ObservationBatch3D) (x y : Done) → let s = run c calls s₀ in
       (d : DifferByFar c s a b) → processReply c s a ≡ given x → processReply c s b ≡ given y → Undisturbed s a b d x y

@@ -1,23 +1,11 @@
 -- The worked edges hold, by computation.
 use mathlib.Core.Path.{refl}
-use Rattle.recorded.specs.Edges.{FirstBirth, UpdateAndBirth, FarFirst, BirthsInOrder, OnlyConfirmedSuppress, AgeAtMostTheWindow, TooManyDetections, TooManySensors, TooManyTracks, NoNumberLeft, TooManyCandidates}
+use Rattle.recorded.specs.Edges.{FirstBirth, OnlyConfirmedSuppress, AgeAtMostTheWindow, TooManyDetections, TooManySensors, TooManyTracks, NoNumberLeft, TooManyCandidates}
 use Rattle.recorded.proofs.Opened.{opened}
 
 pub first-birth : FirstBirth
 unfolding opened
 first-birth = refl
-
-pub update-and-birth : UpdateAndBirth
-unfolding opened
-update-and-birth = refl
-
-pub far-first : FarFirst
-unfolding opened
-far-first = refl
-
-pub births-in-order : BirthsInOrder
-unfolding opened
-births-in-order = (refl, refl)
 
 pub only-confirmed-suppress : OnlyConfirmedSuppress
 unfolding opened

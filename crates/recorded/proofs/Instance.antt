@@ -11,11 +11,11 @@ use Rattle.number.specs.Reply.{Reply, refused, given}
 use Rattle.settings.specs.declared.Cartesian3DTrackerConfig.{Cartesian3DTrackerConfig}
 use Rattle.settings.specs.Settings.{defaultSettings}
 use Rattle.settings.proofs.Defaults.{default-accepted}
+use Rattle.lists.specs.First.{firstOf}
 use Rattle.lists.specs.Masks.{leftBy, Struck, Every}
 use Rattle.number.proofs.Replies.{given-same, never-given}
 use Rattle.lifecycle.specs.declared.TrackLifecycleState.the-variants.{Tentative}
 use Rattle.detections.specs.declared.Detection.{Detection}
-use Rattle.detections.specs.declared.Class.the-variants.{Unknown}
 use Rattle.detections.specs.declared.pairs.PairConfig.{PairConfig}
 use Rattle.detections.specs.declared.pairs.Target.{Target}
 use Rattle.detections.specs.Pairs.{Ruling, forbidden, allowed}
@@ -39,8 +39,8 @@ use Rattle.calls.specs.Numbers.{trackOf}
 use Rattle.calls.specs.Answers.{verdictOn, trackerAfter, reportAfter, BatchAnswers, doneOf, Step, Steps}
 use Rattle.guarantee.specs.Claim.{Last, FarAt, DifferByFar, birthOf, UndisturbedFrom, Guaranteed}
 use Rattle.guarantee.proofs.Whole.{demand3-whole}
-use Rattle.recorded.specs.Edges.{seen, stateIn, told, standing}
-use Rattle.recorded.specs.Instance.{afterCall, afterCalls, verdictsOn, forbids, allForbid, farAmong, isFar, calls, outcomes, start, before, replyTo, now, near, farFirst, farLast, farNone, nearStruck, markOf, numberTwice, one, nothing, Facts}
+use Rattle.recorded.specs.Edges.{stateIn, told, standing}
+use Rattle.recorded.specs.Instance.{afterCall, afterCalls, verdictsOn, forbids, allForbid, farAmong, isFar, calls, outcomes, start, before, replyTo, now, near, away, farFirst, farLast, farNone, nearStruck, markOf, numberTwice, one, nothing, Facts}
 use Rattle.recorded.proofs.Opened.{opened}
 
 facts : Facts
@@ -48,16 +48,13 @@ unfolding opened
 facts =
     record {
       answered = refl;
-      far50 = refl;
-      far70 = refl;
+      far = refl;
       toldFirst = refl;
       toldLast = refl;
-      toldNone = refl;
       marked = refl;
       unmarked = refl;
       farOne = refl;
       keptOne = refl;
-      toldOne = refl;
       acceptedNothing = refl;
       droppedNothing = refl;
     }
@@ -79,6 +76,12 @@ steps-after t (call ∷ calls) (o ∷ os) e = (afterCall t call, step-after t ca
 told-given : (r : Reply Done) (x : ObservationAssociation) (l : List ObservationAssociation) → told r ≡ x ∷ l → verdictOn r ≡ given tt
 told-given (refused n) x l e = absurd (let z : _≡_ {A = ℕ} 0 1 = cc in omega arith)
 told-given (given d) x l e = refl
+
+-- a fresh tracker has no track
+track-given : (r : Reply Done) (n : ℕ) (mark : Bool) → markOf (trackOf n (stateIn r .tracks)) ≡ some mark → verdictOn r ≡ given tt
+unfolding firstOf
+track-given (refused k) n mark e = absurd (let z : _≡_ {A = ℕ} 0 1 = cc in omega arith)
+track-given (given d) n mark e = refl
 
 carried : (u : Cartesian3DTracker) (b : ObservationBatch3D) → let r = processReply (u .config) (stateOf u) b in verdictOn r ≡ given tt → BatchAnswers u b (trackerAfter u (stateGiven r)) outcome.Done (reportAfter r)
 carried u b e = record { tracker = record { is = go (processReply (u .config) (stateOf u) b) e; whole = refl }; reported = refl }
@@ -118,13 +121,10 @@ is-far c s now d e ts p = all-far (pairConfig c) d ts (subst (λ (r : Reply (Lis
 reached : Steps start calls before
 reached = steps-after start calls outcomes (facts .answered)
 
-far50 : FarAt (start .config) (stateOf before) now (seen 50 Unknown)
-far50 = is-far (start .config) (stateOf before) now (seen 50 Unknown) (facts .far50)
+far-away : FarAt (start .config) (stateOf before) now away
+far-away = is-far (start .config) (stateOf before) now away (facts .far)
 
-far70 : FarAt (start .config) (stateOf before) now (seen 70 Unknown)
-far70 = is-far (start .config) (stateOf before) now (seen 70 Unknown) (facts .far70)
-
--- a far one first in one batch, and another last in the other
+-- a far one first in one batch, and last in the other
 pub first-and-last : DifferByFar (start .config) (stateOf before) farFirst farLast
 unfolding batchOf leftBy Struck
 first-and-last =
@@ -135,8 +135,8 @@ first-and-last =
       frame = refl;
       inA = false ∷ true ∷ true ∷ [];
       inB = true ∷ true ∷ false ∷ [];
-      farA = (far50, tt);
-      farB = (far70, tt);
+      farA = (far-away, tt);
+      farB = (far-away, tt);
       common = refl;
     }
 
@@ -151,7 +151,7 @@ last-and-none =
       frame = refl;
       inA = true ∷ true ∷ false ∷ [];
       inB = true ∷ true ∷ [];
-      farA = (far70, tt);
+      farA = (far-away, tt);
       farB = tt;
       common = refl;
     }
@@ -170,7 +170,7 @@ guaranteed-first-and-last = guaranteed farFirst farLast first-and-last (told-giv
 
 -- here those that aren't common stand last in each
 pub guaranteed-last-and-none : Guaranteed (start .config) (stateOf start) calls (stateOf before) farLast farNone last-and-none (doneOn farLast) (doneOn farNone)
-guaranteed-last-and-none = guaranteed farLast farNone last-and-none (told-given (replyTo farLast) _ _ (facts .toldLast)) (told-given (replyTo farNone) _ _ (facts .toldNone))
+guaranteed-last-and-none = guaranteed farLast farNone last-and-none (told-given (replyTo farLast) _ _ (facts .toldLast)) (track-given (replyTo farNone) 1 true (facts .marked))
 
 pub last-in-each : Last (last-and-none .inA) × Last (last-and-none .inB)
 unfolding last-and-none Last Every
@@ -215,7 +215,7 @@ given-what (given d) e = (d, refl)
 pub numbers-matter : ¬ UndisturbedFrom defaultSettings numberTwice
 unfolding run
 numbers-matter claim =
-    let p = given-what (processReply defaultSettings numberTwice one) (told-given (processReply defaultSettings numberTwice one) _ _ (facts .toldOne)) in
+    let p = given-what (processReply defaultSettings numberTwice one) (track-given (processReply defaultSettings numberTwice one) 5 true (facts .keptOne)) in
     let q = given-what (processReply defaultSettings numberTwice nothing) (facts .acceptedNothing) in
     let e = claim [] one nothing (p .0) (q .0) one-and-nothing (p .1) (q .1) .standing (standing Tentative (pos 200) 0 5) (List·Memᴰ·head refl) in
     let kept : markOf (trackOf 5 (p .0 .state .tracks)) ≡ some true = subst (λ (r : Reply Done). markOf (trackOf 5 (stateIn r .tracks)) ≡ some true) (p .1) (facts .keptOne) in

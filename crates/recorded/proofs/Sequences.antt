@@ -2,20 +2,12 @@
 use mathlib.Core.Path.{_≡_, refl}
 use Rattle.types.specs.Fresh.{freshState}
 use Rattle.recorded.specs.Trace.{trace}
-use Rattle.recorded.specs.Sequences.{config64, calls64, answers64, state64, config456, calls456, answers456, state456, config827, calls827, answers827, state827, config2003, calls2003, answers2003, state2003, config5597, calls5597, answers5597, state5597, config7192, calls7192, answers7192, state7192, config21066, calls21066, answers21066, state21066, config22410, calls22410, answers22410, state22410}
+use Rattle.recorded.specs.Sequences.{config64, calls64, answers64, state64, config2003, calls2003, answers2003, state2003, config5597, calls5597, answers5597, state5597, config7192, calls7192, answers7192, state7192, config22410, calls22410, answers22410, state22410}
 use Rattle.recorded.proofs.Opened.{opened}
 
 pub sequence64 : trace config64 calls64 freshState ≡ record { answers = answers64; state = state64 }
 unfolding opened
 sequence64 = refl
-
-pub sequence456 : trace config456 calls456 freshState ≡ record { answers = answers456; state = state456 }
-unfolding opened
-sequence456 = refl
-
-pub sequence827 : trace config827 calls827 freshState ≡ record { answers = answers827; state = state827 }
-unfolding opened
-sequence827 = refl
 
 pub sequence2003 : trace config2003 calls2003 freshState ≡ record { answers = answers2003; state = state2003 }
 unfolding opened
@@ -28,10 +20,6 @@ sequence5597 = refl
 pub sequence7192 : trace config7192 calls7192 freshState ≡ record { answers = answers7192; state = state7192 }
 unfolding opened
 sequence7192 = refl
-
-pub sequence21066 : trace config21066 calls21066 freshState ≡ record { answers = answers21066; state = state21066 }
-unfolding opened
-sequence21066 = refl
 
 pub sequence22410 : trace config22410 calls22410 freshState ≡ record { answers = answers22410; state = state22410 }
 unfolding opened

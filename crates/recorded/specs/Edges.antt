@@ -1,4 +1,4 @@
--- Worked edges of a batch, each as a statement that computing decides: the first birth, an update, far detections, what suppresses a birth, what is recent, and each 11.
+-- Worked edges of a batch, each as a statement that computing decides: the first birth, what suppresses a birth, what is recent, and each 11.
 use mathlib.Core.Path.{_≡_}
 use mathlib.Core.List.{List, [], _∷_}
 use mathlib.Core.Option.{some}
@@ -73,26 +73,11 @@ met i n cost = record { «observation_index» = i; «track_id» = track.Id n; ou
 abbrev pub passed : ℕ → ObservationAssociation
 passed i = record { «observation_index» = i; «track_id» = track.None; outcome = Unmatched; cost = f64.None }
 
--- ---- the first birth, an update, far detections
-
-abbrev pub first : State
-first = stateIn (processReply defaultSettings freshState (batch 1 (pos 5) (seen 0 Unknown ∷ []) 1))
+-- ---- the first birth
 
 -- a detection before a fresh tracker begins track 1
 abbrev pub FirstBirth : Type 0
 FirstBirth = told (processReply defaultSettings freshState (batch 1 (pos 5) (seen 0 Unknown ∷ []) 1)) ≡ began 0 1 ∷ []
-
--- at the same time the same place is at no distance: it updates track 1, at cost +0, and a far detection begins track 2
-abbrev pub UpdateAndBirth : Type 0
-UpdateAndBirth = told (processReply defaultSettings first (batch 2 (pos 5) (seen 0 Unknown ∷ seen 50 Unknown ∷ []) 2)) ≡ met 0 1 nought ∷ began 1 2 ∷ []
-
--- the far one first: the common detection is told the same
-abbrev pub FarFirst : Type 0
-FarFirst = told (processReply defaultSettings first (batch 2 (pos 5) (seen 50 Unknown ∷ seen 0 Unknown ∷ []) 2)) ≡ began 0 2 ∷ met 1 1 nought ∷ []
-
--- two that begin tracks: a far one before the other takes its number, so births need the others last
-abbrev pub BirthsInOrder : Type 0
-BirthsInOrder = (told (processReply defaultSettings first (batch 2 (pos 5) (seen 90 Unknown ∷ []) 1)) ≡ began 0 2 ∷ []) × (told (processReply defaultSettings first (batch 2 (pos 5) (seen 50 Unknown ∷ seen 90 Unknown ∷ []) 2)) ≡ began 0 2 ∷ began 1 3 ∷ [])
 
 -- ---- tables at the time 200
 

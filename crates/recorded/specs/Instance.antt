@@ -100,13 +100,17 @@ near = seen 0 Unknown
 abbrev pub apart : Detection
 apart = seen 90 Unknown
 
--- a far one first
-abbrev pub farFirst : ObservationBatch3D
-farFirst = batch 2 now (seen 50 Unknown ∷ near ∷ apart ∷ []) 3
+-- far, and struck
+abbrev pub away : Detection
+away = seen 50 Unknown
 
--- another last
+-- it stands first
+abbrev pub farFirst : ObservationBatch3D
+farFirst = batch 2 now (away ∷ near ∷ apart ∷ []) 3
+
+-- last
 abbrev pub farLast : ObservationBatch3D
-farLast = batch 2 now (near ∷ apart ∷ seen 70 Unknown ∷ []) 3
+farLast = batch 2 now (near ∷ apart ∷ away ∷ []) 3
 
 -- none
 abbrev pub farNone : ObservationBatch3D
@@ -136,18 +140,15 @@ nothing = batch 1 (pos 9000000000) [] 0
 
 pub record Facts : Type 0 where
   pub answered : map replyOf outcomes ≡ verdictsOn start calls
-  pub far50 : isFar (start .config) (stateOf before) now (seen 50 Unknown) ≡ true
-  pub far70 : isFar (start .config) (stateOf before) now (seen 70 Unknown) ≡ true
+  pub far : isFar (start .config) (stateOf before) now away ≡ true
   -- a far one first takes the number of the track that a common one begins
   pub toldFirst : told (replyTo farFirst) ≡ began 0 2 ∷ met 1 1 nought ∷ began 2 3 ∷ []
   pub toldLast : told (replyTo farLast) ≡ met 0 1 nought ∷ began 1 2 ∷ began 2 3 ∷ []
-  pub toldNone : told (replyTo farNone) ≡ met 0 1 nought ∷ began 1 2 ∷ []
   -- with the near one the track is updated, and without it not
   pub marked : markOf (trackOf 1 (stateIn (replyTo farNone) .tracks)) ≡ some true
   pub unmarked : markOf (trackOf 1 (stateIn (replyTo nearStruck) .tracks)) ≡ some false
   -- the far detection begins a second track 5, and without it no track 5 is kept
   pub farOne : isFar defaultSettings numberTwice (pos 9000000000) near ≡ true
   pub keptOne : markOf (trackOf 5 (stateIn (processReply defaultSettings numberTwice one) .tracks)) ≡ some true
-  pub toldOne : told (processReply defaultSettings numberTwice one) ≡ began 0 5 ∷ []
   pub acceptedNothing : verdictOn (processReply defaultSettings numberTwice nothing) ≡ given tt
   pub droppedNothing : markOf (trackOf 5 (stateIn (processReply defaultSettings numberTwice nothing) .tracks)) ≡ none

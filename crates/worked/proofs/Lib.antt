@@ -1,3 +1,4 @@
 mod Lines
 mod Parts
+mod Sequences
 pub mod Proved
