@@ -1,7 +1,7 @@
 // The least-cost pairing of rows with columns, and who is left: joined groups, each by the steps of `hungarian_square`.
 mod joining;
 mod pair_lists;
-mod table;
+pub mod table;
 mod takers;
 mod union_find;
 
@@ -41,7 +41,7 @@ pub struct Assigned {
 }
 
 // The row that takes each column, into `takers`, which has 64 everywhere at first.
-fn pair_columns(
+pub fn pair_columns(
     costs: &[f64],
     rows: usize,
     columns: usize,

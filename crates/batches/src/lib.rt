@@ -19,7 +19,7 @@ use types::refusal::Refusal;
 use types::tracker::SensorSequence;
 
 // Whether a time is before the last one that was seen.
-fn is_before(last: Observation, time: i64) -> bool
+pub fn is_before(last: Observation, time: i64) -> bool
     ensures { λ r. ⌜ r ≡ isBefore (timeOf last) time ⌝ }
 {
     match last {

@@ -102,3 +102,26 @@ module _ {A : Type 0} where
       go true o q e = absurd (Option·some-ne-none 0 e)
       go false none q e = ap (λ (r : List A). x ∷ r) (q refl)
       go false (some j) q e = absurd (Option·some-ne-none (suc j) e)
+
+-- ---- a search, and whether there is any
+
+module _ {A : Type 0} (p : A → Bool) where
+  pub any-nowhere : (l : List A) → firstAt p l ≡ none → any p l ≡ false
+  unfolding firstAt any
+  any-nowhere [] e = refl
+  any-nowhere (x ∷ l) e = go (p x) (firstAt p l) (any-nowhere l) e
+    where
+      go : (b : Bool) (o : Option ℕ) → (o ≡ none → any p l ≡ false) → cond b (some 0) (onePlaceOn o) ≡ none → cond b true (any p l) ≡ false
+      go true o f e = absurd (let z : _≡_ {A = ℕ} 0 1 = cc in omega arith)
+      go false none f e = f refl
+      go false (some i) f e = absurd (let z : _≡_ {A = ℕ} 0 1 = cc in omega arith)
+
+  pub any-somewhere : (l : List A) (i : ℕ) → firstAt p l ≡ some i → any p l ≡ true
+  unfolding firstAt any
+  any-somewhere [] i e = absurd (let z : _≡_ {A = ℕ} 0 1 = cc in omega arith)
+  any-somewhere (x ∷ l) i e = go (p x) (firstAt p l) (any-somewhere l) e
+    where
+      go : (b : Bool) (o : Option ℕ) → ((j : ℕ) → o ≡ some j → any p l ≡ true) → cond b (some 0) (onePlaceOn o) ≡ some i → cond b true (any p l) ≡ true
+      go true o f e = refl
+      go false none f e = absurd (let z : _≡_ {A = ℕ} 0 1 = cc in omega arith)
+      go false (some j) f e = f j refl

@@ -6,7 +6,7 @@ use native.Mathlib.Numerals.{add-one}
 use native.Mathlib.Decide.{decLe}
 use native.Mathlib.Omega.{arith}
 use lib.ListN.{length, take, drop, getD, set, length-append, length-take, length-drop, take-append-drop, length-set, length-map}
-use lib.Seq.{take-append-seam, drop-append-seam, drop-cons, set-append-seam, getD-append-add, getD-drop, take-all, length-take-le, set-append-left}
+use lib.Seq.{take-append-seam, drop-append-seam, drop-append-add, drop-drop, drop-cons, set-append-seam, getD-append-add, getD-drop, take-all, length-take-le, set-append-left, take-suc}
 use Rattle.lists.specs.Lay.{lay}
 
 module _ {A : Type 0} where
@@ -22,6 +22,17 @@ module _ {A : Type 0} where
   pub lay-front : (n : ℕ) (m : List A) → n ≤ length m → lay (take n m) m ≡ m
   unfolding lay
   lay-front n m h = rw (length-take-le n m h) (take-append-drop n m)
+
+  -- of two lists laid one after the other the longer one covers the one before
+  pub lay-lay : (l k m : List A) → length k ≤ length l → lay l (lay k m) ≡ lay l m
+  unfolding lay
+  lay-lay l k m h =
+      let split : length k + (length l - length k) ≡ length l = omega arith in
+      ap (λ (q : List A). l ++ q)
+      (ap (λ (n : ℕ). drop n (k ++ drop (length k) m)) (sym split)
+      ∙ drop-append-add k (drop (length k) m) (length l - length k)
+      ∙ drop-drop (length l - length k) (length k) m
+      ∙ ap (λ (n : ℕ). drop n m) split)
 
   -- one more element, stored at the seam
   pub set-lay : (l m : List A) (x : A) → length l < length m → set (lay l m) (length l) x ≡ lay (l ++ (x ∷ [])) m
@@ -68,3 +79,15 @@ take-min {A} n l = go (decLe n (length l))
     go : Dec (n ≤ length l) → take n l ≡ take (min n (length l)) l
     go (yes h) = let e : min n (length l) ≡ n = omega arith in rw e
     go (no h) = take-all n l (omega arith) ∙ sym (take-all (min n (length l)) l (omega arith))
+
+-- laying the first places of m over m is m, however many they are
+pub lay-own : {A : Type 0} (n : ℕ) (m : List A) → lay (take n m) m ≡ m
+lay-own {A} n m = ap (λ (q : List A). lay q m) (take-min n m) ∙ lay-front (min n (length m)) m (omega arith)
+
+-- one place more of l copied over m
+pub copy-lay : {A : Type 0} (l m : List A) (i : ℕ) (a : A) → i < length l → i < length m → set (lay (take i l) m) i (getD l i a) ≡ lay (take (i + 1) l) m
+copy-lay {A} l m i a h g =
+    let z : length (take i l) ≡ i = length-take-le i l (omega arith) in
+    ap (λ (k : ℕ). set (lay (take i l) m) k (getD l i a)) (sym z)
+    ∙ set-lay (take i l) m (getD l i a) (omega (arith, z))
+    ∙ ap (λ (q : List A). lay q m) (sym (ap (λ (k : ℕ). take k l) (add-one i) ∙ take-suc l i a h))

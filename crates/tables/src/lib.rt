@@ -13,7 +13,7 @@ pub enum Place {
 }
 
 // How many places of a table are taken, whatever its count says.
-fn taken(count: usize, most: usize) -> usize
+pub fn taken(count: usize, most: usize) -> usize
     ensures { λ r. ⌜ r ≡ min count most ⌝ }
 {
     if count < most { count } else { most }

@@ -41,6 +41,11 @@ abbrev pub replyOf : Outcome → Reply (Unit {0})
 replyOf Done = given tt
 replyOf (Refused why) = refused (numberOf why)
 
+-- an outcome with the value that stands beside it
+abbrev pub answered : {A : Type 0} → Outcome → A → Reply A
+answered Done v = given v
+answered (Refused why) v = refused (numberOf why)
+
 -- the same in the terms of the settings' check, with the field
 abbrev pub settingsReplyOf : Outcome → SettingsReply
 settingsReplyOf Done = settings.accepted

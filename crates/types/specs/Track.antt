@@ -1,6 +1,6 @@
 -- One part of a track changed, and what is shown of it.
 use mathlib.Core.Bool.{Bool}
-use mathlib.Core.List.{List, [], _∷_}
+use mathlib.Core.List.{[], _∷_}
 use lib.IntN.{ℤ}
 use lib.Ieee.{nan}
 use lib.ListN.{getD}

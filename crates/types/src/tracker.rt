@@ -37,7 +37,7 @@ pub struct Cartesian3DTracker {
 }
 
 // What stands in the places that nothing has taken.
-fn blank_track() -> Track3D
+pub fn blank_track() -> Track3D
     ensures { λ r. ⌜ r ≡ blankTrack ⌝ }
 {
     let filter = KalmanFilter {
