@@ -1,0 +1,4 @@
+-- The laws that the proofs cite.
+pub mod Telling
+pub mod Columns
+pub mod Ties
