@@ -1,0 +1,4 @@
+pub mod Nearing
+pub mod Aging
+pub mod Seeing
+pub mod Copying

@@ -1,0 +1,4 @@
+pub mod Deciding
+pub mod Walking
+pub mod Staging
+pub mod Growing

@@ -1,0 +1,2 @@
+pub mod Spawn
+pub mod Ruling
