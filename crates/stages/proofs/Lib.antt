@@ -1,0 +1,4 @@
+pub mod Settled
+pub mod Moving
+pub mod Ending
+pub mod Taking

@@ -1,0 +1,4 @@
+pub mod Priors
+pub mod Predicting
+pub mod Showing
+pub mod Owning
