@@ -1,3 +1,4 @@
+-- The loop keeps `Weeded`: the candidates before i that stay stand in front; an age that overflows ends it by `weeded-stops`.
 use mathlib.Core.Path.{_≡_, sym, ap, _∙_}
 use Prim.Native.Nat.{_≤_, _-_}
 use lib.ListN.{length, length-set}

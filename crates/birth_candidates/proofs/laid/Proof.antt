@@ -1,3 +1,4 @@
+-- The loop keeps `Copied`: the first i places are those of the candidates kept.
 use mathlib.Core.Path.{_≡_, _∙_}
 use Prim.Native.Nat.{_≤_, _-_}
 use lib.ListN.{length, length-set}

@@ -1,3 +1,4 @@
+-- Four ends, each one law of Nearing: seen at this time, not within the radius, no nearer than the best, the new best.
 use mathlib.Core.Path.{_≡_, ap, _∙_}
 use mathlib.Core.Bool.{false}
 use lib.Ieee.{Float}

@@ -1,3 +1,4 @@
+-- The loop keeps that the best so far is `nearestFrom` of the candidates before i.
 use mathlib.Core.Path.{_≡_, refl, sym, ap, _∙_}
 use mathlib.Core.Option.{none}
 use Prim.Native.Nat.{_≤_, _-_}

@@ -1,3 +1,4 @@
+-- The candidates' ages come first; where they are given, the walk's contract is the stage's by the laws of Staging.
 use mathlib.Core.Path.{ap}
 use lib.ListN.{replicate}
 use mir.Facts.{toZ-ofZ}

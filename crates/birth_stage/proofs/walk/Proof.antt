@@ -1,3 +1,4 @@
+-- The loop keeps `Walking`: what the births of the columns before j left in the tracker, in the candidates and in what is told. Each arm ends by the law of its turn, and after the last one the candidates are laid back.
 use mathlib.Core.Path.{_≡_, refl, sym, ap, _∙_, subst}
 use Prim.Native.Nat.{_≤_, _<_, _-_, _^_}
 use lib.ListN.{length, getD, replicate, length-set}

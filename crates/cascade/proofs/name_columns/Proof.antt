@@ -1,3 +1,4 @@
+-- The loop keeps `Pointwise`: the columns before j have their names, the other places are as they were.
 use Prim.Native.Nat.{_-_, _≤_}
 use lib.ListN.{getD}
 use native.Mathlib.Omega.{arith}

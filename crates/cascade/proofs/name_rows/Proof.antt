@@ -1,3 +1,4 @@
+-- The loop keeps `Pointwise`: the rows before i have their names, the other places are as they were.
 use mathlib.Core.Bool.{false}
 use Prim.Native.Nat.{_-_, _≤_}
 use lib.ListN.{getD}

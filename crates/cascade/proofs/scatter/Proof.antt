@@ -1,3 +1,4 @@
+-- The loop keeps `Scattering`: the columns of the stage before j have their takers by the whole table's rows, the others the takers from before.
 use Prim.Native.Nat.{_-_, _≤_}
 use native.Mathlib.Omega.{arith}
 use borrow.Author.Tests.{eq-eqb, ne-eqb}

@@ -1,3 +1,4 @@
+-- Three answers, by whether the track was ever seen and by what its age is; the age is the checked difference of two times.
 use mathlib.Core.Path.{_≡_, sym, ap, _∙_}
 use mathlib.Core.Bool.{Bool}
 use lib.IntN.{ℤ}

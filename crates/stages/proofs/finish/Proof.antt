@@ -1,3 +1,4 @@
+-- The births' contract is stated of the tracker at the batch's time; each end is then one law of Ending.
 use mathlib.Core.Path.{_≡_, subst}
 use lib.ListN.{length}
 use mir.Syntax.{w64}

@@ -1,3 +1,4 @@
+-- The pairing's contract and the updates' are joined by the laws of Taking; a refusal of either gives the tracker back.
 use mathlib.Core.Path.{_≡_, subst}
 use lib.ListN.{length}
 use mir.Syntax.{w64}

@@ -1,3 +1,4 @@
+-- The prepared tracker is what the next stages ask for; a refusal gives the old one back.
 use mathlib.Core.Path.{sym, subst}
 use mir.Syntax.{w64}
 use mir.Val.{SFits}

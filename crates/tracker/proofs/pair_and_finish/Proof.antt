@@ -1,3 +1,4 @@
+-- The check of the batch gives what the two stages ask; each return is one law of Owning, by which stage ended the batch.
 use mathlib.Core.Path.{_≡_}
 use lib.ListN.{length}
 use borrow.Author.Needs.{needs}

@@ -1,3 +1,4 @@
+-- Three ends: the time lies before the last one, a track is refused, or all tracks are moved and the time is set; each is one law of Predicting.
 use mathlib.Core.Path.{_≡_, sym, ap, _∙_}
 use mathlib.Core.Bool.{false}
 use mir.Facts.{toZ-ofZ}

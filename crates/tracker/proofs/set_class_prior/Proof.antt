@@ -1,3 +1,4 @@
+-- Three ends: the confidence isn't finite, no track has the number, or the prior is set; each is one law of Priors.
 use mathlib.Core.Path.{_≡_, sym, ap, _∙_}
 use mathlib.Core.Bool.{true}
 use lib.Ieee.Scale.{finite}

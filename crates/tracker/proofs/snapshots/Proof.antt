@@ -1,3 +1,4 @@
+-- The loop keeps `Shown`: the snapshots of the tracks before i stand in front of the blanks.
 use mathlib.Core.Path.{_≡_, ap, _∙_}
 use Prim.Native.Nat.{_≤_, _-_}
 use lib.ListN.{length, length-set, replicate}

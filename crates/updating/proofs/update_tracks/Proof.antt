@@ -1,3 +1,4 @@
+-- The loop keeps `Stepped`: the tracks before i are updated in place. A track with a mate takes one law, one without another, a refusal ends it.
 use mathlib.Core.Path.{_≡_}
 use Prim.Native.Nat.{_≤_, _-_}
 use lib.ListN.{length}

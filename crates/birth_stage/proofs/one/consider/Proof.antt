@@ -1,3 +1,4 @@
+-- Four ends, each one law of Deciding: it waits, it begins a track, the track is refused, there is no place for a candidate.
 use mir.Facts.{toZ-ofZ}
 use borrow.Author.Needs.{needs}
 use Rattle.calls.specs.Births.{lowScore, nearConfirmed}

@@ -1,3 +1,4 @@
+-- Three ends, by what is ruled of the detection: passed over, it begins, it counts as a sighting.
 use mathlib.Core.Path.{sym, _∙_}
 use mir.Facts.{toZ-ofZ}
 use borrow.Author.Needs.{needs}

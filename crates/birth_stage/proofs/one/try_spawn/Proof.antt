@@ -1,3 +1,4 @@
+-- Four ends, each one law of Deciding: begun, the filter is refused, no number left, no place left.
 use borrow.Author.Needs.{needs}
 use Rattle.birth_stage.proofs.Deciding.{try-done, try-refused, try-no-place, try-no-number}
 use Rattle.birth_stage.proofs.one.try_spawn.Statement.{statement}
