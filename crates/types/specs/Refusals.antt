@@ -37,14 +37,14 @@ fieldOf AssignmentFailed = 0
 fieldOf TooMany = 0
 fieldOf InvalidPrior = 0
 
-abbrev pub replyOf : Outcome → Reply (Unit {0})
-replyOf Done = given tt
-replyOf (Refused why) = refused (numberOf why)
-
 -- an outcome with the value that stands beside it
 abbrev pub answered : {A : Type 0} → Outcome → A → Reply A
 answered Done v = given v
 answered (Refused why) v = refused (numberOf why)
+
+-- the outcome alone
+abbrev pub replyOf : Outcome → Reply (Unit {0})
+replyOf o = answered o tt
 
 -- the same in the terms of the settings' check, with the field
 abbrev pub settingsReplyOf : Outcome → SettingsReply
