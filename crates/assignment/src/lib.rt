@@ -41,6 +41,7 @@ pub struct Assigned {
 }
 
 // The row that takes each column, into `takers`, which has 64 everywhere at first.
+// A leaf, which the pairing of a batch calls too: its callers lend takers that they have just made. What a refusal leaves in them is open but for their number; no caller reads it.
 pub fn pair_columns(
     costs: &[f64],
     rows: usize,

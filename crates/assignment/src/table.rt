@@ -30,6 +30,7 @@ pub fn sentinel(m: f64) -> f64
 }
 
 // How many of the first n names are g.
+// A leaf, as the gathering below is: the stages of a cascade call both with counts of at most 64 and arrays of their own.
 pub fn count_named(names: &[usize; 64], n: usize, g: usize) -> usize
     requires { ⌜ n ≤ 64 ⌝ }
     ensures { λ r. ⌜ r ≡ ticks (bears (now (names .entry)) g) n ⌝ }

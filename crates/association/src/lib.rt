@@ -35,6 +35,7 @@ pub fn no_pairs() -> [Pair; MAX_OBSERVATIONS]
 }
 
 // The pair of each of the first m columns; a taker that is not one of the n tracks is none.
+// A leaf: the pairing stage has brought both counts down to the places that there are.
 pub fn pairs_of(
     tracks: [Track3D; MAX_TRACKS],
     n: usize,
@@ -64,6 +65,7 @@ pub fn pairs_of(
 }
 
 // The numbers of the tracks that took no detection, in track order.
+// A leaf, as above.
 pub fn unmatched_of(tracks: [Track3D; MAX_TRACKS], n: usize, mates: &[usize; 64]) -> Unmatched
     requires { ⌜ n ≤ 64 ⌝ }
     ensures { λ r. ⌜ Listed (unmatchedFrom (mateOf (now (mates .entry)) []) 0 (take n tracks)) (r .ids) (r .count) ⌝ }

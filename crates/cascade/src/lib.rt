@@ -141,6 +141,7 @@ fn pair_stage(
 }
 
 // The row that takes each column, into `takers`, which has 64 everywhere at first: recent rows first, then the others on what is left.
+// A leaf: the pairing stage lends a table of its own and takers that it has just made.
 pub fn pair_cascade(
     costs: &[f64],
     n: usize,
@@ -161,6 +162,7 @@ pub fn pair_cascade(
 }
 
 // The row that takes each column of the whole table, in one stage, into `takers`, which has 64 everywhere at first.
+// A leaf, as above. What a refusal leaves in `takers` is open but for their number; no caller reads it.
 pub fn pair_all(costs: &[f64], n: usize, m: usize, gate: f64, takers: &mut [usize; 64]) -> Outcome
     requires { ⌜ (length (now costs) ≡ n * m) × (now takers ≡ replicate 64 64) ⌝ }
     ensures { λ r. ⌜ (andThen (replyOf r) (λ _. given (takersOf m (now (takers .exit)))) ≡ assigned gate (rowsOf n m (now (costs .entry))) m) × (length (now (takers .exit)) ≡ 64) ⌝ }

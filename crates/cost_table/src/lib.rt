@@ -29,6 +29,7 @@ fn target_of(x: Track3D) -> Target
 }
 
 // The costs of the first n tracks with the first m detections, a row of m for each track. The first refusal decides, in track order and then in detection order.
+// A leaf: the pairing stage has brought both counts down to the places that there are.
 pub fn price_table(
     tracks: [Track3D; MAX_TRACKS],
     n: usize,

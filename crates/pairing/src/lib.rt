@@ -22,6 +22,7 @@ use types::refusal::Refusal;
 use types::track::Track3D;
 
 // The column of each row, into `mates`, which has 64 everywhere at first; 64 for none. The last column comes first, so that of two columns of a row the first stays.
+// A leaf, as the other two that the pairing stage calls: it lends arrays that it has just made, and counts of at most 64.
 pub fn mates_of(takers: &[usize; 64], m: usize, mates: &mut [usize; 64])
     requires { ⌜ (m ≤ 64) × (length (now takers) ≡ 64) × (now mates ≡ replicate 64 64) ⌝ }
     ensures { λ _. ⌜ Mates (takersOf m (now (takers .entry))) (now (mates .exit)) ⌝ }

@@ -148,6 +148,7 @@ fn pair(u: Cartesian3DTracker, batch: ObservationBatch3D) -> Paired
 }
 
 // Stages 4 to 6, on a tracker whose tracks are at the batch's time: the pairing and the updates. The batch has passed its check.
+// A leaf: only a batch that has passed comes here, so that no detection is checked twice.
 pub fn match_tracks(u: Cartesian3DTracker, batch: ObservationBatch3D) -> Matching
     requires { ⌜ detectionsReply (seenIn batch) ≡ given tt ⌝ }
     ensures { λ r. ⌜ MatchAnswers u batch r ⌝ }
@@ -178,6 +179,7 @@ pub fn match_tracks(u: Cartesian3DTracker, batch: ObservationBatch3D) -> Matchin
 }
 
 // Stages 7 to 9, on a tracker whose tracks are updated: the births, the sensor's sequence, the report.
+// A leaf: the check has found room for the sensor, and the pairing has told the unmatched numbers with zeros behind them.
 pub fn finish(
     u: Cartesian3DTracker,
     batch: ObservationBatch3D,
