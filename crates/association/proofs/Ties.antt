@@ -68,13 +68,6 @@ module _ (t : List (Option ℕ)) (mates : List ℕ) (seen : List Detection) (m :
       → eachAt (λ i x. f x (mateOf mates seen i)) 0 ts ≡ eachAt (λ i x. f x (takenBy t (take m seen) i)) 0 ts
   each-by-mates f ts h = each-same (λ i x. f x (mateOf mates seen i)) (λ i x. f x (takenBy t (take m seen) i)) 0 ts (λ k x q. ap (f x) (mates-chosen k (omega arith)))
 
-  -- two steps that agree on detections that have passed their checks agree over the tracks of a checked batch
-  pub each-passed : {B : Type 0} (f g : Track3D → Option Detection → Reply B) → ((x : Track3D) (o : Option Detection) → ((d : Detection) → o ≡ some d → detectionReply d ≡ given tt) → f x o ≡ g x o)
-      → (ts : List Track3D) → length ts ≤ 64 → detectionsReply (take m seen) ≡ given tt → eachAt (λ i x. f x (mateOf mates seen i)) 0 ts ≡ eachAt (λ i x. g x (mateOf mates seen i)) 0 ts
-  each-passed f g same ts h p =
-      each-same (λ i x. f x (mateOf mates seen i)) (λ i x. g x (mateOf mates seen i)) 0 ts
-      (λ k x q. same x (mateOf mates seen k) (λ d e. chosen-passed t (take m seen) k d p (sym (mates-chosen k (omega arith)) ∙ e)))
-
 -- ---- the pair of each detection
 
 back : (o : Option Match) → matchFor (pairFor o) ≡ o

@@ -37,13 +37,6 @@ passed frame last sequences b e =
     let t = bound (detectionsReply (take (b .count) (b .observations))) _ tt (s .1) in
     record { few = p .0; same-frame = q .0; in-time = r .0; new-sequence = s .0; detections = t .1; room = past-test (roomFor 32 (b .«sensor_id») sequences) 11 _ tt (t .2) .0 }
 
--- each detection has passed its own check
-pub detection-passed : (l : List Detection) (i : ℕ) (d : Detection) → detectionsReply l ≡ given tt → i < length l → detectionReply (getD l i d) ≡ given tt
-unfolding detectionsReply
-detection-passed [] i d e h = absurd (omega arith)
-detection-passed (x ∷ l) zero d e h = bound (detectionReply x) _ tt e .1
-detection-passed (x ∷ l) (suc i) d e h = detection-passed l i d (bound (detectionReply x) _ tt e .2) (omega arith)
-
 -- with room for its sensor, the table notes the sequence
 pub noted-room : (sensor q : ℕ) (l : List SensorSequence) → roomFor 32 sensor l ≡ true → notedIn 32 sensor q l ≡ noted sensor q l
 unfolding notedIn

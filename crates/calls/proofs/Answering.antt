@@ -32,10 +32,6 @@ module _ (t : Cartesian3DTracker) (b : ObservationBatch3D) where
   pub batch-refuses : (why : Refusal) → refused (numberOf why) ≡ processReply (t .config) (stateOf t) b → BatchAnswers t b t (outcome.Refused why) blankReport
   batch-refuses why e = record { tracker = refuses t why _ (ap stateGiven e); reported = ap reportAfter e }
 
-  pub batch-carries-out : (u : Cartesian3DTracker) (report : BatchReport3D) (d : Done) → u ≡ overState t (d .state) → report ≡ wholeReport (d .report)
-      → given d ≡ processReply (t .config) (stateOf t) b → BatchAnswers t b u outcome.Done report
-  batch-carries-out u report d h g e = record { tracker = carries-out t u (d .state) _ h (ap stateGiven e); reported = g ∙ ap reportAfter e }
-
 -- ---- what the tracker holds after a call
 
 module _ (t u : Cartesian3DTracker) (o : Outcome) where

@@ -47,13 +47,6 @@ module _ (d : Detection) (ok : detectionReply d ≡ given tt) where
 
 -- ---- the same for all tracks of a batch, whose detections are checked before any track is looked at
 
--- one of a list that has passed
-pub passed-at : (l : List Detection) (k : ℕ) (a : Detection) → detectionsReply l ≡ given tt → k < length l → detectionReply (getD l k a) ≡ given tt
-unfolding detectionsReply
-passed-at [] k a e h = absurd (omega arith)
-passed-at (x ∷ l) zero a e h = let p = bound (detectionReply x) (λ u. detectionsReply l) tt e in p .1
-passed-at (x ∷ l) (suc k) a e h = let p = bound (detectionReply x) (λ u. detectionsReply l) tt e in passed-at l k a (p .2) (omega arith)
-
 module _ (c : Cartesian3DTrackerConfig) (sensor : ℕ) (now : ℤ) (took : ℕ → Option Detection) (ok : (i : ℕ) (d : Detection) → took i ≡ some d → detectionReply d ≡ given tt) where
   one : (t : Track3D) (o : Option Detection) → ((d : Detection) → o ≡ some d → detectionReply d ≡ given tt) → updatedOrNot (updateOf c sensor now) t o ≡ updatedBy c sensor now t o
   unfolding updatedBy
@@ -69,8 +62,3 @@ module _ (c : Cartesian3DTrackerConfig) (sensor : ℕ) (now : ℤ) (took : ℕ �
   pub updates-checked : (ts : List Track3D) → eachAt (λ k t. updatedOrNot (updateOf c sensor now) t (took k)) 0 ts ≡ updates c sensor now took ts
   unfolding updates
   updates-checked ts = each-checked 0 ts
-
-  -- what `update_tracks` answers
-  pub tracks-checked : (s : Cartesian3DTracker) → updatedTracks s took (updateOf c sensor now) ≡ andThen (updates c sensor now took (tracksOf s)) (λ ts. given (overTracks s ts))
-  unfolding updatedTracks
-  tracks-checked s = ap (λ (r : Reply (List Track3D)). andThen r (λ ts. given (overTracks s ts))) (updates-checked (tracksOf s))
