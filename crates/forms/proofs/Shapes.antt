@@ -8,33 +8,15 @@ use native.Mathlib.Numerals.{add-one}
 use native.Mathlib.Omega.{arith}
 use borrow.Author.Tests.{eq-eqb, ne-eqb}
 use lib.Dec.{eqb}
-use lib.ListN.{length, drop, getD, length-drop}
-use lib.Seq.{drop-cons}
-use Rattle.forms.specs.Shape.{wordByte, pastWord, behind, formsOf, word, inside, bracketed, formOf, listOf, readOf}
+use lib.ListN.{length, drop, getD, length-drop, drop-of-length-le}
+use lib.Seq.{drop-cons, drop-drop}
+use Rattle.forms.specs.Shape.{wordByte, pastWord, wordEnd, behind, formsOf, word, inside, bracketed, formOf, listOf, readOf}
 use Rattle.forms.specs.declared.Read.{Read}
 use Rattle.forms.specs.declared.Read.the-variants.{Next, Refused}
 
 -- ---- a word's bytes
 pub word-rest : (b : ℕ) → (b ≡ 32 → ⊥) → (b ≡ 10 → ⊥) → (b ≡ 40 → ⊥) → not (eqb b 41) ≡ wordByte b
 word-rest b f g h = simp (ne-eqb b 32 f, ne-eqb b 10 g, ne-eqb b 40 h)
-
-pub past-more : (s : List ℕ) (i : ℕ) → i < length s → wordByte (getD s i 0) ≡ true → pastWord (drop (i + 1) s) ≡ pastWord (drop i s)
-unfolding pastWord
-past-more s i h e = rw (add-one, drop-cons s i 0, e)
-
-pub past-here : (s : List ℕ) (i : ℕ) → i < length s → wordByte (getD s i 0) ≡ false → drop i s ≡ pastWord (drop i s)
-unfolding pastWord
-past-here s i h e = rw (drop-cons s i 0, e)
-
-pub drop-all : (s : List ℕ) (i : ℕ) → length s ≤ i → drop i s ≡ []
-drop-all [] zero h = refl
-drop-all [] (suc i) h = refl
-drop-all (x ∷ s) zero h = absurd (omega arith)
-drop-all (x ∷ s) (suc i) h = drop-all s i (omega arith)
-
-pub past-end : (s : List ℕ) (i : ℕ) → length s ≤ i → drop i s ≡ pastWord (drop i s)
-unfolding pastWord
-past-end s i h = rw (drop-all s i h)
 
 -- ---- the second list is what is left of the first behind one element or more
 pub data Tail : List ℕ → List ℕ → Type 0 where
@@ -70,6 +52,43 @@ pub past-tail : (b : ℕ) (l : List ℕ) → Tail (b ∷ l) (pastWord l)
 unfolding pastWord
 past-tail b [] = one
 past-tail b (c ∷ l) = past-cond b (wordByte c) (past-tail c l)
+
+past-short : (l : List ℕ) → length (pastWord l) ≤ length l
+past-short l = let t = shorter (past-tail 0 l) in omega arith
+
+-- ---- the place behind a word
+module _ (s : List ℕ) (i : ℕ) where
+  pub end-here : i < length s → wordByte (getD s i 0) ≡ false → wordEnd s i ≡ i
+  unfolding pastWord
+  end-here h e = rw (drop-cons s i 0, e) (omega arith)
+
+  pub end-more : i < length s → wordByte (getD s i 0) ≡ true → wordEnd s (i + 1) ≡ wordEnd s i
+  unfolding pastWord
+  end-more h e =
+      let l = past-short (drop (suc i) s) in
+      let n : length (drop (suc i) s) ≡ length s - suc i = length-drop (suc i) s in
+      rw (add-one, drop-cons s i 0, e) (omega arith)
+
+  pub end-past : length s ≤ i → wordEnd s i ≡ i
+  end-past h = rw (drop-of-length-le s h) (omega arith)
+
+-- what callers use of it
+pub record Passed (s : List ℕ) (from r : ℕ) : Type 0 where
+  pub past : from ≤ r
+  pub within : r ≤ length s
+  pub left : drop r s ≡ pastWord (drop from s)
+
+word-left : (l : List ℕ) → drop (length l - length (pastWord l)) l ≡ pastWord l
+word-left l =
+    let h = past-short l in
+    let e : suc (length l) - length (pastWord l) ≡ suc (length l - length (pastWord l)) = omega arith in
+    sym (placed (past-tail 0 l) ∙ ap (λ (k : ℕ). drop k (0 ∷ l)) e)
+
+pub passed : (s : List ℕ) (from r : ℕ) → from ≤ length s → r ≡ wordEnd s from → Passed s from r
+passed s from r h e =
+    let l = past-short (drop from s) in
+    let n : length (drop from s) ≡ length s - from = length-drop from s in
+    record { past = omega arith; within = omega arith; left = ap (λ (k : ℕ). drop k s) e ∙ sym (drop-drop _ from s) ∙ word-left (drop from s) }
 
 pub never : {r : List ℕ} {X : Type 0} → none ≡ some r → X
 never {r} h = absurd (let z : _≡_ {A = ℕ} 0 1 = cc in omega arith)
@@ -196,7 +215,7 @@ module _ (s : List ℕ) (at d : ℕ) where
   module _ (e : ℕ) (f : Found s at d e) where
     pub list-ends : length s ≤ e → Refused ≡ readOf s (listOf d (drop at s))
     unfolding behind
-    list-ends h = rw (list-is d (drop at s), f .left, drop-all s e h)
+    list-ends h = rw (list-is d (drop at s), f .left, drop-of-length-le s h)
 
     list-steps : e < length s → listOf d (drop at s) ≡ behind (listOf d) (some (getD s e 0 ∷ drop (e + 1) s))
     list-steps h = rw (list-is d (drop at s), f .left, drop-cons s e 0, ← add-one)
@@ -216,7 +235,7 @@ module _ (s : List ℕ) (at d : ℕ) where
 -- ---- the form reader's answers
 module _ (s : List ℕ) (at d : ℕ) where
   pub form-ends : length s ≤ at → Refused ≡ readOf s (formOf d (drop at s))
-  form-ends h = rw (drop-all s at h, at-none (formOf d) (form-shrinks d))
+  form-ends h = rw (drop-of-length-le s h, at-none (formOf d) (form-shrinks d))
 
   module _ (h : at < length s) where
     opens : drop at s ≡ getD s at 0 ∷ drop (at + 1) s
@@ -249,7 +268,7 @@ module _ (s : List ℕ) (at d : ℕ) where
 
       pub form-open : length s ≤ at + 1 → Refused ≡ readOf s (formOf d (drop at s))
       unfolding inside
-      form-open w = rw (into, drop-all s (at + 1) w)
+      form-open w = rw (into, drop-of-length-le s w)
 
       module _ (w : at + 1 < length s) where
         opens′ : drop (at + 1) s ≡ getD s (at + 1) 0 ∷ drop (at + 1 + 1) s
@@ -262,7 +281,3 @@ module _ (s : List ℕ) (at d : ℕ) where
         pub form-list : (getD s (at + 1) 0 ≡ 41 → ⊥) → readOf s (listOf (d - 1) (drop (at + 1) s)) ≡ readOf s (formOf d (drop at s))
         unfolding inside
         form-list k = rw (into, opens′, ne-eqb _ _ k)
-
--- ---- what a word leaves is no longer than what it stands in
-pub past-len : (l : List ℕ) → length (pastWord l) ≤ length l
-past-len l = let t = shorter (past-tail 0 l) in omega arith

@@ -4,8 +4,7 @@
 use mathlib.Core.Bool.{Bool, true, false, cond, not, _&&_}
 use mathlib.Core.Option.{Option, none, some}
 use mathlib.Core.List.{List, [], _∷_}
-use mathlib.Core.Path.{_≡_}
-use Prim.Native.Nat.{ℕ, zero, suc, _-_, _≤_}
+use Prim.Native.Nat.{ℕ, zero, suc, _+_, _-_}
 use lib.Dec.{eqb}
 use lib.ListN.{length, drop}
 use Rattle.forms.specs.declared.Read.{Read}
@@ -20,11 +19,9 @@ unfoldable pub pastWord : List ℕ → List ℕ
 pastWord [] = []
 pastWord (b ∷ l) = cond (wordByte b) (pastWord l) (b ∷ l)
 
--- r is the place in s behind the word's bytes that stand from `from` on
-pub record Passed (s : List ℕ) (from r : ℕ) : Type 0 where
-  pub past : from ≤ r
-  pub within : from ≤ length s → r ≤ length s
-  pub left : drop r s ≡ pastWord (drop from s)
+-- the place in s behind the word's bytes that stand from `from` on: as many further as bytes were passed, so a place at the end or past it stays
+abbrev pub wordEnd : List ℕ → ℕ → ℕ
+wordEnd s from = from + (length (drop from s) - length (pastWord (drop from s)))
 
 -- what follows a form inside brackets: the closing bracket, or a blank and the forms that `more` reads
 unfoldable pub behind : (List ℕ → Option (List ℕ)) → Option (List ℕ) → Option (List ℕ)

@@ -3,7 +3,7 @@ pub mod decimal;
 
 ghost use mathlib.Core.Path.{_≡_};
 ghost use lib.ListN.{drop};
-ghost use Rattle.forms.specs.Shape.{wordByte, Passed, formOf, listOf, readOf};
+ghost use Rattle.forms.specs.Shape.{wordByte, wordEnd, formOf, listOf, readOf};
 
 // The place behind what was read, or that it does not stand there.
 pub enum Read {
@@ -29,7 +29,7 @@ fn word_byte(b: u8) -> bool
 
 // The first place at or behind `from` that has no byte of a word; a place past the end is left as it is.
 pub fn past_word(s: &[u8], from: usize) -> usize
-    ensures { λ r. ⌜ Passed (now (s .entry)) from r ⌝ }
+    ensures { λ r. ⌜ r ≡ wordEnd (now (s .entry)) from ⌝ }
 {
     let mut i = from;
     while i < s.len() {

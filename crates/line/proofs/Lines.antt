@@ -9,7 +9,7 @@ use native.Mathlib.Omega.{arith}
 use native.Mathlib.Nat.{suc-mul, zero-mul, mul-le-mul-right}
 use borrow.Author.Tests.{lt-ltb, le-ltb, lt-leb, le-leb, eqb-true}
 use lib.Dec.{eqb, leb}
-use lib.ListN.{length, take, drop, getD, length-append, length-drop}
+use lib.ListN.{length, take, drop, getD, length-append, length-drop, drop-of-length-le}
 use lib.Seq.{drop-cons}
 use lib.Ieee.{Float, binary64, ofBits}
 use Rattle.number.specs.Reply.{Reply}
@@ -18,7 +18,7 @@ use Rattle.assignment.specs.Listing.{AssignmentAnswer, pairsIn}
 use Rattle.assignment.specs.declared.Assigned.{Assigned}
 use Rattle.assignment.specs.declared.Outcome.the-variants.{Given, TooMany, NonFinite, Failed}
 use Rattle.forms.specs.Shape.{formOf, readOf}
-use Rattle.forms.proofs.Shapes.{read-next, read-refused, drop-all}
+use Rattle.forms.proofs.Shapes.{read-next, read-refused}
 use Rattle.forms.specs.declared.Read.the-variants.{Next, Refused}
 use Rattle.request.specs.Request.{Request, requestOf, shaped, even}
 use Rattle.request.specs.Asking.{askedOf, noCosts, costsOf}
@@ -48,7 +48,7 @@ module _ (s : List ℕ) where
 
       pub formed-ends : length s ≤ e → false ≡ formed s
       unfolding whole
-      formed-ends k = rw (formed-is, found, drop-all s e k)
+      formed-ends k = rw (formed-is, found, drop-of-length-le s k)
 
       pub formed-more : (length s - e ≡ 1 → ⊥) → false ≡ formed s
       unfolding whole
@@ -63,7 +63,7 @@ module _ (s : List ℕ) where
       unfolding whole
       formed-last k =
           let a : drop e s ≡ getD s e 0 ∷ drop (e + 1) s = rw (add-one) (drop-cons s e 0 (omega arith)) in
-          let b : drop (e + 1) s ≡ [] = drop-all s (e + 1) (omega arith) in
+          let b : drop (e + 1) s ≡ [] = drop-of-length-le s {i = e + 1} (omega arith) in
           rw (formed-is, found, a, b)
 
 -- ---- the pairing

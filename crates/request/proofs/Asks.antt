@@ -9,11 +9,11 @@ use native.Mathlib.Omega.{arith}
 use borrow.Author.Tests.{eq-eqb, ne-eqb}
 use lib.Dec.{eqb}
 use lib.IntN.{ℤ, pos, negsuc}
-use lib.ListN.{length, take, drop, getD, set, length-append, length-drop}
+use lib.ListN.{length, take, drop, getD, set, length-append, length-drop, drop-of-length-le}
 use lib.Seq.{sets, drop-cons}
 use lib.Ieee.{Float}
 use Rattle.kuhn_munkres.specs.Assignment.{inOne}
-use Rattle.forms.proofs.Shapes.{Tail, one, more, on, inner, drop-all}
+use Rattle.forms.proofs.Shapes.{Tail, one, more, on, inner}
 use Rattle.request.specs.Listed.{after, told, bracketed}
 use Rattle.request.specs.Request.{argumentOf, begins, opening, Sizes, costed, columned, rowed, headOf, headAnswer, Request, closing, closed, tableOf, tabled, requestOf, even, shaped, Stored, storeOne, Filled, fillRow, rowsAnswer, TableRead, tableTold, rowOf}
 use Rattle.request.specs.Asking.{askedOf, over, noCosts, readingOf, AskedRead}
@@ -42,7 +42,7 @@ module _ (s : List ℕ) (at : ℕ) where
     end-is =
         let a : drop at s ≡ getD s at 0 ∷ drop (at + 1) s = rw (add-one) (drop-cons s at 0 (omega arith)) in
         let b : drop (at + 1) s ≡ getD s (at + 1) 0 ∷ drop (at + 1 + 1) s = drop-cons s (at + 1) 0 (omega arith) ∙ rw (add-one (at + 1)) in
-        a ∙ ap (λ (l : List ℕ). getD s at 0 ∷ l) (b ∙ ap (λ (l : List ℕ). getD s (at + 1) 0 ∷ l) (drop-all s (at + 1 + 1) (omega arith)))
+        a ∙ ap (λ (l : List ℕ). getD s at 0 ∷ l) (b ∙ ap (λ (l : List ℕ). getD s (at + 1) 0 ∷ l) (drop-of-length-le s {i = at + 1 + 1} (omega arith)))
 
     pub closing-byte : (getD s at 0 ≡ 41 → ⊥) → false ≡ closing (drop at s)
     unfolding closing

@@ -8,9 +8,9 @@ use native.Mathlib.Numerals.{add-one}
 use native.Mathlib.Omega.{arith}
 use borrow.Author.Tests.{eq-eqb, ne-eqb}
 use lib.Dec.{eqb}
-use lib.ListN.{length, drop, getD, length-drop}
+use lib.ListN.{length, drop, getD, length-drop, drop-of-length-le}
 use lib.Seq.{drop-cons}
-use Rattle.forms.proofs.Shapes.{Tail, one, more, on, shorter, placed, inner, drop-all}
+use Rattle.forms.proofs.Shapes.{Tail, one, more, on, shorter, placed, inner}
 use Rattle.request.specs.Listed.{Reader, also, behind, upTo, listed, inside, bracketed, after, told}
 
 pub never : {X : Type 0} {x : X} {Y : Type 0} → none ≡ some x → Y
@@ -120,7 +120,7 @@ module _ {X A : Type 0} (step : A → X → A) (p : Reader X) (leaves : Leaves p
   module _ (x : X) (e : ℕ) (g : Got p s at x e) where
     pub walk-ends : length s ≤ e → told step a s (listed p (drop at s)) ≡ none
     unfolding told behind
-    walk-ends h = rw (rest-is, g .left, drop-all s e h)
+    walk-ends h = rw (rest-is, g .left, drop-of-length-le s h)
 
     steps : e < length s → listed p (drop at s) ≡ behind (listed p) (some (x, getD s e 0 ∷ drop (e + 1) s))
     steps h = rest-is ∙ ap (behind (listed p)) (g .left ∙ ap (λ (m : List ℕ). some (x, m)) (rw (add-one, drop-cons s e 0)))
@@ -144,7 +144,7 @@ module _ {X A : Type 0} (step : A → X → A) (p : Reader X) (leaves : Leaves p
   -- ---- in brackets
   pub bracket-ends : length s ≤ at → told step a s (bracketed p (drop at s)) ≡ none
   unfolding told bracketed
-  bracket-ends h = rw (drop-all s at h)
+  bracket-ends h = rw (drop-of-length-le s h)
 
   module _ (h : at < length s) where
     opens : drop at s ≡ getD s at 0 ∷ drop (at + 1) s
@@ -157,7 +157,7 @@ module _ {X A : Type 0} (step : A → X → A) (p : Reader X) (leaves : Leaves p
     module _ (g : getD s at 0 ≡ 40) where
       pub bracket-open : length s ≤ at + 1 → told step a s (bracketed p (drop at s)) ≡ none
       unfolding told bracketed inside
-      bracket-open k = rw (opens, g, drop-all s (at + 1) k)
+      bracket-open k = rw (opens, g, drop-of-length-le s k)
 
       module _ (k : at + 1 < length s) where
         opens′ : drop (at + 1) s ≡ getD s (at + 1) 0 ∷ drop (at + 1 + 1) s

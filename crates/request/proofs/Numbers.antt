@@ -9,11 +9,11 @@ use native.Mathlib.Omega.{arith}
 use borrow.Author.Tests.{eq-eqb, ne-eqb}
 use lib.Dec.{eqb, ltb}
 use lib.IntN.{ℤ, pos, negsuc}
-use lib.ListN.{length, take, drop, getD, length-drop}
+use lib.ListN.{length, take, drop, getD, length-drop, drop-of-length-le}
 use lib.Seq.{drop-cons}
 use lib.Ieee.{Float, Format, binary64, ofInt, ofBits, ofFields, inf, fin, nan, neg, round, units, odd, low, prec, emax, size, nearest}
-use Rattle.forms.specs.Shape.{pastWord, Passed}
-use Rattle.forms.proofs.Shapes.{Tail, one, more, on, past-tail, drop-all}
+use Rattle.forms.specs.Shape.{pastWord, wordEnd}
+use Rattle.forms.proofs.Shapes.{Tail, one, more, on, past-tail, Passed, passed}
 use Rattle.forms.specs.Decimal.{decimalOf, answerOf}
 use Rattle.forms.specs.declared.decimal.Decimal.the-variants.{Plus as DPlus, Minus as DMinus, NoValue}
 use Rattle.request.specs.Request.{wordOf, dash, leaving, costOf, costIn, entryOf, blank, argumentOf, begins, numberedOf, itemOf}
@@ -41,7 +41,7 @@ module _ (t s : List ℕ) (i : ℕ) (h : i < length t) where
 
   pub begins-ends : length s ≤ i → begins (drop i t) (drop i s) ≡ false
   unfolding begins
-  begins-ends g = rw (head-of, drop-all s i g)
+  begins-ends g = rw (head-of, drop-of-length-le s g)
 
   module _ (g : i < length s) where
     head-in : drop i s ≡ getD s i 0 ∷ drop (i + 1) s
@@ -57,7 +57,7 @@ module _ (t s : List ℕ) (i : ℕ) (h : i < length t) where
 
 pub begins-all : (t s : List ℕ) (i : ℕ) → length t ≤ i → begins (drop i t) (drop i s) ≡ true
 unfolding begins
-begins-all t s i h = rw (drop-all t i h)
+begins-all t s i h = rw (drop-of-length-le t h)
 
 pub begins-long : (t s : List ℕ) → begins t s ≡ true → length t ≤ length s
 unfolding begins
@@ -123,12 +123,15 @@ unfolding ofBits ofFields
 infinite = refl
 
 -- ---- the word at `at`, which ends at e
-module _ (s : List ℕ) (at e : ℕ) (b : at ≤ length s) (p : Passed s at e) where
+module _ (s : List ℕ) (at e : ℕ) (b : at ≤ length s) (q : e ≡ wordEnd s at) where
+  p : Passed s at e
+  p = passed s at e b q
+
   abbrev w : List ℕ
   w = take (e - at) (drop at s)
 
-  inside-line : e ≤ length s
-  inside-line = p .within b
+  pub inside-line : e ≤ length s
+  inside-line = p .within
 
   word-is : wordOf (drop at s) ≡ w
   unfolding wordOf
@@ -166,7 +169,7 @@ module _ (s : List ℕ) (at e : ℕ) (b : at ≤ length s) (p : Passed s at e) w
 
   pub argument-ends : length s ≤ e → NoNumber ≡ numberedOf s (argumentOf (drop at s))
   unfolding blank leaving
-  argument-ends h = rw (argument-is, drop-all s e h) (go (decimalOf w))
+  argument-ends h = rw (argument-is, drop-of-length-le s h) (go (decimalOf w))
     where
       go : (o : Option ℤ) → NoNumber ≡ numberedOf s (blank (leaving [] o))
       go none = refl

@@ -90,7 +90,9 @@ form-returns-5 t c = c .list .ensures ∙ facts.form-list (c .before .before .be
 
 -- src/lib.rt:43:1
 form-returns-6 : (t : ℕ) → form-lts.Need-returns-6 (list-below t, list.Post, word-byte-reads.Asked, word-byte-reads.Learnt, past-word-reads.Asked, past-word-reads.Learnt) (form-at t) form.Post
-form-returns-6 t c = facts.form-word (c .before .before .before .before .before .before .before .args .s .now) (c .before .before .before .before .before .before .before .args .at) (c .before .before .before .before .before .before .before .args .depth) (search needs) (c .before .before .before .if2 .left) (sym (c .before .before .word-byte .ensures) ∙ c .before .if6 .taken) (c .past-word .result) (c .past-word .ensures .within (search needs)) (c .past-word .ensures .left)
+form-returns-6 t c =
+    let P = facts.passed (c .before .before .before .before .before .before .before .args .s .now) _ (c .past-word .result) (search needs) (c .past-word .ensures) in
+    facts.form-word (c .before .before .before .before .before .before .before .args .s .now) (c .before .before .before .before .before .before .before .args .at) (c .before .before .before .before .before .before .before .args .depth) (search needs) (c .before .before .before .if2 .left) (sym (c .before .before .word-byte .ensures) ∙ c .before .if6 .taken) (c .past-word .result) (P .within) (P .left)
 
 -- src/lib.rt:43:1
 form-returns-7 : (t : ℕ) → form-lts.Need-returns-7 (list-below t, list.Post, word-byte-reads.Asked, word-byte-reads.Learnt, past-word-reads.Asked, past-word-reads.Learnt) (form-at t) form.Post

@@ -8,17 +8,11 @@ use native.Mathlib.Numerals.{add-one}
 use native.Mathlib.Omega.{arith}
 use borrow.Author.Tests.{eq-eqb, ne-eqb, le-leb, lt-leb}
 use lib.Dec.{eqb, leb}
-use lib.ListN.{length, take, drop, getD, length-drop}
+use lib.ListN.{length, take, drop, getD, length-drop, drop-of-length-le}
 use lib.Seq.{drop-cons, take-all}
 use Rattle.forms.specs.Decimal.{digit, valueOf, limited, naturalOf, minus, plus, decimalOf, countOf, answerOf}
 use Rattle.forms.specs.declared.decimal.Natural.the-variants.{Count, NoCount}
 use Rattle.forms.specs.declared.decimal.Decimal.the-variants.{Plus, Minus, NoValue}
-
-drop-all : (s : List ℕ) (i : ℕ) → length s ≤ i → drop i s ≡ []
-drop-all [] zero h = refl
-drop-all [] (suc i) h = refl
-drop-all (x ∷ s) zero h = absurd (omega arith)
-drop-all (x ∷ s) (suc i) h = drop-all s i (omega arith)
 
 -- a value that is over the limit stays over it
 over : (l : List ℕ) (v : ℕ) → 1000000 < v → limited (valueOf v l) ≡ none
@@ -51,7 +45,7 @@ module _ (w : List ℕ) (i v : ℕ) (h : i < length w) where
 
 pub ended : (w : List ℕ) (i v : ℕ) → length w ≤ i → v ≤ 1000000 → limited (valueOf v (drop i w)) ≡ some v
 unfolding valueOf limited
-ended w i v h g = rw (drop-all w i h, le-leb v 1000000 g)
+ended w i v h g = rw (drop-of-length-le w h, le-leb v 1000000 g)
 
 -- ---- no leading zero
 pub none-of : (w : List ℕ) → length w ≡ 0 → naturalOf w ≡ none
