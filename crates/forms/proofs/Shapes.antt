@@ -224,13 +224,17 @@ module _ (s : List ℕ) (at d : ℕ) where
     unfolding behind
     list-closed h g = next-at s (e + 1) (omega arith) ∙ rw (list-steps h, g)
 
-    pub list-more : e < length s → getD s e 0 ≡ 32 → readOf s (listOf d (drop (e + 1) s)) ≡ readOf s (listOf d (drop at s))
+    pub list-more : e < length s → getD s e 0 ≡ 32 → listOf d (drop (e + 1) s) ≡ listOf d (drop at s)
     unfolding behind
     list-more h g = rw (list-steps h, g)
 
     pub list-other : e < length s → (getD s e 0 ≡ 41 → ⊥) → (getD s e 0 ≡ 32 → ⊥) → Refused ≡ readOf s (listOf d (drop at s))
     unfolding behind
     list-other h g k = rw (list-steps h, ne-eqb _ _ g, ne-eqb _ _ k)
+
+-- what is read of a list's later part is read of the whole
+pub listed-on : (s : List ℕ) {o p : Option (List ℕ)} → o ≡ p → readOf s o ≡ readOf s p
+listed-on s e = ap (λ (o : Option (List ℕ)). readOf s o) e
 
 -- ---- the form reader's answers
 module _ (s : List ℕ) (at d : ℕ) where

@@ -72,19 +72,22 @@ pub fn form(s: &[u8], at: usize, depth: usize) -> Read
 pub fn list(s: &[u8], at: usize, depth: usize) -> Read
     ensures { λ r. ⌜ r ≡ readOf (now (s .entry)) (listOf depth (drop at (now (s .entry)))) ⌝ }
 {
-    match form(s, at, depth) {
-        Read::Refused => Read::Refused,
-        Read::Next(e) => {
-            if s.len() <= e {
-                return Read::Refused;
-            }
-            let c = s[e];
-            if c == 41 {
-                Read::Next(e + 1)
-            } else if c == 32 {
-                list(s, e + 1, depth)
-            } else {
-                Read::Refused
+    let mut i = at;
+    loop {
+        match form(s, i, depth) {
+            Read::Refused => return Read::Refused,
+            Read::Next(e) => {
+                if s.len() <= e {
+                    return Read::Refused;
+                }
+                let c = s[e];
+                if c == 41 {
+                    return Read::Next(e + 1);
+                }
+                if c != 32 {
+                    return Read::Refused;
+                }
+                i = e + 1;
             }
         }
     }

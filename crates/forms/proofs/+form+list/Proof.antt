@@ -1,9 +1,11 @@
+-- The form reader and the list reader meet their contracts, shown together. What falls from call to call is the depth, doubled, a list counting one more than a
+-- form; so calls nest no deeper than brackets may. Within one list the loop takes form after form: what is listed from `i` on stays what is listed from `at` on.
 use borrow.Author.Needs.{needs}
 use mathlib.Core.Path.{_≡_, refl, sym, _∙_}
 use Prim.Native.Nat.{ℕ, _<_, _+_, _-_}
 use native.Mathlib.Omega.{arith}
-use lib.ListN.{length, drop, getD}
-use Rattle.forms.specs.Shape.{formOf, listOf, readOf}
+use lib.ListN.{length, drop}
+use Rattle.forms.specs.Shape.{listOf}
 use Rattle.forms.proofs.Shapes as facts
 use borrow.Fn.Kinds.{In}
 use borrow.Fn.PlainCycle.{Measures, is, falls, and}
@@ -19,10 +21,10 @@ use Rattle.forms.proofs.+form+list.{statement}
 use Rattle.forms.proofs.+form+list.Tie.{close}
 
 abbrev μ-form : Measures 1 form-kinds.ps ℕ
-μ-form κs a = (length (a .0 .now) - a .1 .0) + (length (a .0 .now) - a .1 .0)
+μ-form κs a = a .1 .1 .0 + a .1 .1 .0
 
 abbrev μ-list : Measures 1 list-kinds.ps ℕ
-μ-list κs a = (length (a .0 .now) - a .1 .0) + (length (a .0 .now) - a .1 .0) + 1
+μ-list κs a = a .1 .1 .0 + a .1 .1 .0 + 1
 
 abbrev form-at : ℕ → In 1 form-kinds.ps
 form-at t = and 1 form-kinds.ps (is 1 form-kinds.ps μ-form t) form.Pre
@@ -36,156 +38,112 @@ list-at t = and 1 list-kinds.ps (is 1 list-kinds.ps μ-list t) list.Pre
 abbrev list-below : ℕ → In 1 list-kinds.ps
 list-below t = and 1 list-kinds.ps (falls 1 list-kinds.ps _<_ μ-list t) list.Pre
 
--- src/lib.rt:47:9
-form-returns : (t : ℕ) → form-lts.Need-returns (list-below t, list.Post, word-byte-reads.Asked, word-byte-reads.Learnt, past-word-reads.Asked, past-word-reads.Learnt) (form-at t) form.Post
-form-returns t c = facts.form-ends (c .before .before .args .s .now) (c .before .before .args .at) (c .before .before .args .depth) (c .if1 .taken)
+abbrev Inv-loop : list-lts.InvT-loop
+Inv-loop s at depth i₀ i = listOf depth (drop i s) ≡ listOf depth (drop at s)
 
--- src/lib.rt:49:13
-form-shared-slice-read-b : (t : ℕ) → form-lts.Need-shared-slice-read-b (list-below t, list.Post, word-byte-reads.Asked, word-byte-reads.Learnt, past-word-reads.Asked, past-word-reads.Learnt) (form-at t) form.Post
-form-shared-slice-read-b t c = search needs
+abbrev μ-loop : list-lts.MeasureT-loop
+μ-loop s at depth i₀ i = length s - i
 
--- src/lib.rt:50:13
-form-add-i : (t : ℕ) → form-lts.Need-add-i (list-below t, list.Post, word-byte-reads.Asked, word-byte-reads.Learnt, past-word-reads.Asked, past-word-reads.Learnt) (form-at t) form.Post
-form-add-i t c = search needs
-
--- src/lib.rt:53:13
-form-returns-2 : (t : ℕ) → form-lts.Need-returns-2 (list-below t, list.Post, word-byte-reads.Asked, word-byte-reads.Learnt, past-word-reads.Asked, past-word-reads.Learnt) (form-at t) form.Post
-form-returns-2 t c = facts.form-deep (c .before .before .before .before .before .args .s .now) (c .before .before .before .before .before .args .at) (c .before .before .before .before .before .args .depth) (search needs) (c .before .if2 .taken) (c .if3 .taken)
-
--- src/lib.rt:56:13
-form-returns-3 : (t : ℕ) → form-lts.Need-returns-3 (list-below t, list.Post, word-byte-reads.Asked, word-byte-reads.Learnt, past-word-reads.Asked, past-word-reads.Learnt) (form-at t) form.Post
-form-returns-3 t c = facts.form-open (c .before .before .before .before .before .before .args .s .now) (c .before .before .before .before .before .before .args .at) (c .before .before .before .before .before .before .args .depth) (search needs) (c .before .before .if2 .taken) (c .before .if3 .left) (c .if4 .taken)
-
--- src/lib.rt:58:12
-form-shared-slice-read-if5 : (t : ℕ) → form-lts.Need-shared-slice-read-if5 (list-below t, list.Post, word-byte-reads.Asked, word-byte-reads.Learnt, past-word-reads.Asked, past-word-reads.Learnt) (form-at t) form.Post
-form-shared-slice-read-if5 t c = search needs
-
--- src/lib.rt:59:31
-form-add-t15 : (t : ℕ) → form-lts.Need-add-t15 (list-below t, list.Post, word-byte-reads.Asked, word-byte-reads.Learnt, past-word-reads.Asked, past-word-reads.Learnt) (form-at t) form.Post
-form-add-t15 t c = search needs
-
--- src/lib.rt:59:13
-form-returns-4 : (t : ℕ) → form-lts.Need-returns-4 (list-below t, list.Post, word-byte-reads.Asked, word-byte-reads.Learnt, past-word-reads.Asked, past-word-reads.Learnt) (form-at t) form.Post
-form-returns-4 t c = facts.form-empty (c .before .before .before .before .before .before .before .before .args .s .now) (c .before .before .before .before .before .before .before .before .args .at) (c .before .before .before .before .before .before .before .before .args .depth) (search needs) (c .before .before .before .before .if2 .taken) (c .before .before .before .if3 .left) (search needs) (c .if5 .taken)
-
--- src/lib.rt:61:20
-form-sub-list : (t : ℕ) → form-lts.Need-sub-list (list-below t, list.Post, word-byte-reads.Asked, word-byte-reads.Learnt, past-word-reads.Asked, past-word-reads.Learnt) (form-at t) form.Post
-form-sub-list t c = search needs
-
--- src/lib.rt:61:9
-form-list-requires : (t : ℕ) → form-lts.Need-list-requires (list-below t, list.Post, word-byte-reads.Asked, word-byte-reads.Learnt, past-word-reads.Asked, past-word-reads.Learnt) (form-at t) form.Post
-form-list-requires t c κs = (omega arith, tt)
-
--- src/lib.rt:62:15
-form-word-byte-requires : (t : ℕ) → form-lts.Need-word-byte-requires (list-below t, list.Post, word-byte-reads.Asked, word-byte-reads.Learnt, past-word-reads.Asked, past-word-reads.Learnt) (form-at t) form.Post
-form-word-byte-requires t c κs = search needs
-
--- src/lib.rt:63:20
-form-past-word-requires : (t : ℕ) → form-lts.Need-past-word-requires (list-below t, list.Post, word-byte-reads.Asked, word-byte-reads.Learnt, past-word-reads.Asked, past-word-reads.Learnt) (form-at t) form.Post
-form-past-word-requires t c κs = search needs
-
--- src/lib.rt:43:1
-form-returns-5 : (t : ℕ) → form-lts.Need-returns-5 (list-below t, list.Post, word-byte-reads.Asked, word-byte-reads.Learnt, past-word-reads.Asked, past-word-reads.Learnt) (form-at t) form.Post
-form-returns-5 t c = c .list .ensures ∙ facts.form-list (c .before .before .before .before .before .before .before .before .before .args .s .now) (c .before .before .before .before .before .before .before .before .before .args .at) (c .before .before .before .before .before .before .before .before .before .args .depth) (search needs) (c .before .before .before .before .before .if2 .taken) (c .before .before .before .before .if3 .left) (search needs) (c .before .if5 .left)
-
--- src/lib.rt:43:1
-form-returns-6 : (t : ℕ) → form-lts.Need-returns-6 (list-below t, list.Post, word-byte-reads.Asked, word-byte-reads.Learnt, past-word-reads.Asked, past-word-reads.Learnt) (form-at t) form.Post
-form-returns-6 t c =
-    let P = facts.passed (c .before .before .before .before .before .before .before .args .s .now) _ (c .past-word .result) (search needs) (c .past-word .ensures) in
-    facts.form-word (c .before .before .before .before .before .before .before .args .s .now) (c .before .before .before .before .before .before .before .args .at) (c .before .before .before .before .before .before .before .args .depth) (search needs) (c .before .before .before .if2 .left) (sym (c .before .before .word-byte .ensures) ∙ c .before .if6 .taken) (c .past-word .result) (P .within) (P .left)
-
--- src/lib.rt:43:1
-form-returns-7 : (t : ℕ) → form-lts.Need-returns-7 (list-below t, list.Post, word-byte-reads.Asked, word-byte-reads.Learnt, past-word-reads.Asked, past-word-reads.Learnt) (form-at t) form.Post
-form-returns-7 t c = facts.form-other (c .before .before .before .before .before .before .args .s .now) (c .before .before .before .before .before .before .args .at) (c .before .before .before .before .before .before .args .depth) (search needs) (c .before .before .if2 .left) (sym (c .before .word-byte .ensures) ∙ c .if6 .left)
-
--- what the form reader's answer says
-found : (t : ℕ) (c : list-lts.After-e (form-below t, form.Post, list-below t, list.Post) (list-at t) list.Post) → facts.Found (c .before .before .before .before .args .s .now) (c .before .before .before .before .args .at) (c .before .before .before .before .args .depth) (c .e .given .0 .0)
-found t c = facts.read-next (c .before .before .before .before .args .s .now) (c .before .before .before .before .args .at) (c .before .before .before .before .args .depth) (c .e .given .0 .0) (sym (c .e .given .1) ∙ c .before .before .form .ensures)
-
--- src/lib.rt:73:11
-list-form-requires : (t : ℕ) → list-lts.Need-form-requires (form-below t, form.Post, list-below t, list.Post) (list-at t) list.Post
-list-form-requires t c κs = (omega arith, tt)
-
--- src/lib.rt:74:26
-list-enum-told : (t : ℕ) → list-lts.Need-enum-told (form-below t, form.Post, list-below t, list.Post) (list-at t) list.Post
-list-enum-told t c = search needs
-
--- src/lib.rt:75:20
-list-enum-known-e : (t : ℕ) → list-lts.Need-enum-known-e (form-below t, form.Post, list-below t, list.Post) (list-at t) list.Post
-list-enum-known-e t c = search needs
-
--- src/lib.rt:77:17
-list-returns :
-    (t : ℕ) →
-    list-lts.Need-returns (form-below t, form.Post, list-below t, list.Post) (list-at t) list.Post
-list-returns t c = facts.list-ends (c .before .before .before .before .before .before .args .s .now) (c .before .before .before .before .before .before .args .at) (c .before .before .before .before .before .before .args .depth) (c .before .before .e .given .0 .0) (found t (c .before .before)) (c .if1 .taken)
-
--- src/lib.rt:79:21
-list-shared-slice-read-c : (t : ℕ) → list-lts.Need-shared-slice-read-c (form-below t, form.Post, list-below t, list.Post) (list-at t) list.Post
-list-shared-slice-read-c t c = search needs
-
--- src/lib.rt:81:28
-list-add-t13 :
-    (t : ℕ) →
-    list-lts.Need-add-t13 (form-below t, form.Post, list-below t, list.Post) (list-at t) list.Post
-list-add-t13 t c = search needs
-
--- src/lib.rt:83:25
-list-add-list : (t : ℕ) → list-lts.Need-add-list (form-below t, form.Post, list-below t, list.Post) (list-at t) list.Post
-list-add-list t c = search needs
-
--- src/lib.rt:83:17
-list-list-requires : (t : ℕ) → list-lts.Need-list-requires (form-below t, form.Post, list-below t, list.Post) (list-at t) list.Post
-list-list-requires t c κs = let f = found t (c .before .before .before .before .before) in (omega arith, tt)
-
--- src/lib.rt:70:1
-list-returns-2 : (t : ℕ) → list-lts.Need-returns-2 (form-below t, form.Post, list-below t, list.Post) (list-at t) list.Post
-list-returns-2 t c = facts.list-refused (c .before .before .before .before .args .s .now) (c .before .before .before .before .args .at) (c .before .before .before .before .args .depth) (facts.read-refused (c .before .before .before .before .args .s .now) (c .before .before .before .before .args .at) (c .before .before .before .before .args .depth) (sym (c .enum-told .given .1) ∙ c .before .before .form .ensures))
-
--- src/lib.rt:70:1
-list-returns-3 : (t : ℕ) → list-lts.Need-returns-3 (form-below t, form.Post, list-below t, list.Post) (list-at t) list.Post
-list-returns-3 t c = facts.list-closed (c .before .before .before .before .before .before .before .before .args .s .now) (c .before .before .before .before .before .before .before .before .args .at) (c .before .before .before .before .before .before .before .before .args .depth) (c .before .before .before .before .e .given .0 .0) (found t (c .before .before .before .before)) (search needs) (c .if2 .taken)
-
--- src/lib.rt:70:1
-list-returns-4 : (t : ℕ) → list-lts.Need-returns-4 (form-below t, form.Post, list-below t, list.Post) (list-at t) list.Post
-list-returns-4 t c = c .list .ensures ∙ facts.list-more (c .before .before .before .before .before .before .before .before .before .before .args .s .now) (c .before .before .before .before .before .before .before .before .before .before .args .at) (c .before .before .before .before .before .before .before .before .before .before .args .depth) (c .before .before .before .before .before .before .e .given .0 .0) (found t (c .before .before .before .before .before .before)) (search needs) (c .before .if3 .taken)
-
--- src/lib.rt:70:1
-list-returns-5 : (t : ℕ) → list-lts.Need-returns-5 (form-below t, form.Post, list-below t, list.Post) (list-at t) list.Post
-list-returns-5 t c = facts.list-other (c .before .before .before .before .before .before .before .before .before .args .s .now) (c .before .before .before .before .before .before .before .before .before .args .at) (c .before .before .before .before .before .before .before .before .before .args .depth) (c .before .before .before .before .before .e .given .0 .0) (found t (c .before .before .before .before .before)) (search needs) (c .before .if2 .left) (c .if3 .left)
+-- what the form reader's answer says in a turn of the list's loop
+found :
+    (t : ℕ) (c : list-lts.After-e (form-below t, form.Post) (list-at t) list.Post Inv-loop μ-loop) →
+    let turn = c .before .before .before in
+    let start = turn .before .before in
+    facts.Found (start .args .s .now) (turn .loop .i) (start .args .depth) (c .e .given .0 .0)
+found t c =
+    let turn = c .before .before .before in
+    let start = turn .before .before in
+    facts.read-next (start .args .s .now) (turn .loop .i) (start .args .depth) (c .e .given .0 .0) (sym (c .e .given .1) ∙ c .before .before .form .ensures)
 
 pub +form+list-spec : {M : Type 1} → statement M
-+form+list-spec = close μ-form μ-list (λ t. form-lts.spec (list-below t, list.Post, word-byte-reads.Asked, word-byte-reads.Learnt, past-word-reads.Asked, past-word-reads.Learnt)
-    (form-at t)
-    form.Post
-    (form-returns t)
-    (form-shared-slice-read-b t)
-    (form-add-i t)
-    (form-returns-2 t)
-    (form-returns-3 t)
-    (form-shared-slice-read-if5 t)
-    (form-add-t15 t)
-    (form-returns-4 t)
-    (form-sub-list t)
-    (form-list-requires t)
-    (form-word-byte-requires t)
-    (form-past-word-requires t)
-    (form-returns-5 t)
-    (form-returns-6 t)
-    (form-returns-7 t))
-    λ t. list-lts.spec
-    (form-below t, form.Post, list-below t, list.Post)
-    (list-at t)
-    list.Post
-    (list-form-requires t)
-    (list-enum-told t)
-    (list-enum-known-e t)
-    (list-returns t)
-    (list-shared-slice-read-c t)
-    (list-add-t13 t)
-    (list-add-list t)
-    (list-list-requires t)
-    (list-returns-2 t)
-    (list-returns-3 t)
-    (list-returns-4 t)
-    (list-returns-5 t)
++form+list-spec = close μ-form μ-list
+    (λ t.
+    form-lts.spec (list-below t, list.Post, word-byte-reads.Asked, word-byte-reads.Learnt, past-word-reads.Asked, past-word-reads.Learnt) (form-at t) form.Post
+    -- the line's end
+    (λ c. let start = c .before .before in facts.form-ends (start .args .s .now) (start .args .at) (start .args .depth) (c .if1 .taken))
+    (λ c. search needs)
+    (λ c. search needs)
+    -- a bracket, one too deep
+    (λ c.
+    let start = c .before .before .before .before .before in
+    facts.form-deep (start .args .s .now) (start .args .at) (start .args .depth) (search needs) (c .before .if2 .taken) (c .if3 .taken))
+    -- a bracket and the line's end
+    (λ c.
+    let deep = c .before in
+    let start = deep .before .before .before .before .before in
+    facts.form-open (start .args .s .now) (start .args .at) (start .args .depth) (search needs) (deep .before .if2 .taken) (deep .if3 .left) (c .if4 .taken))
+    (λ c. search needs)
+    (λ c. search needs)
+    -- empty brackets
+    (λ c.
+    let deep = c .before .before .before in
+    let start = deep .before .before .before .before .before in
+    facts.form-empty (start .args .s .now) (start .args .at) (start .args .depth) (search needs) (deep .before .if2 .taken) (deep .if3 .left) (search needs) (c .if5 .taken))
+    (λ c. search needs)
+    (λ c κs. (omega arith, tt))
+    (λ c κs. search needs)
+    (λ c κs. search needs)
+    -- brackets round forms
+    (λ c.
+    let deep = c .before .before .before .before in
+    let start = deep .before .before .before .before .before in
+    c .list .ensures
+    ∙ facts.form-list (start .args .s .now) (start .args .at) (start .args .depth) (search needs) (deep .before .if2 .taken) (deep .if3 .left) (search needs) (c .before .if5 .left))
+    -- a word
+    (λ c.
+    let bracket = c .before .before .before in
+    let start = bracket .before .before .before .before in
+    let passed = facts.passed (start .args .s .now) _ (c .past-word .result) (search needs) (c .past-word .ensures) in
+    facts.form-word (start .args .s .now) (start .args .at) (start .args .depth) (search needs) (bracket .if2 .left)
+    (sym (c .before .before .word-byte .ensures) ∙ c .before .if6 .taken) (c .past-word .result) (passed .within) (passed .left))
+    -- another byte
+    (λ c.
+    let bracket = c .before .before in
+    let start = bracket .before .before .before .before in
+    facts.form-other (start .args .s .now) (start .args .at) (start .args .depth) (search needs) (bracket .if2 .left) (sym (c .before .word-byte .ensures) ∙ c .if6 .left)))
+    (λ t.
+    list-lts.spec (form-below t, form.Post) (list-at t) list.Post Inv-loop μ-loop
+    (λ c. refl)
+    (λ c κs. (omega arith, tt))
+    (λ c. search needs)
+    -- no form stands there
+    (λ c.
+    let read = c .before .before in
+    let turn = read .before in
+    let start = turn .before .before in
+    facts.list-refused (start .args .s .now) (turn .loop .i) (start .args .depth)
+    (facts.read-refused (start .args .s .now) (turn .loop .i) (start .args .depth) (sym (c .enum-told .given .1) ∙ read .form .ensures))
+    ∙ facts.listed-on (start .args .s .now) (turn .loop .inv))
+    (λ c. search needs)
+    -- a form and the line's end
+    (λ c.
+    let read = c .before .before in
+    let turn = read .before .before .before in
+    let start = turn .before .before in
+    facts.list-ends (start .args .s .now) (turn .loop .i) (start .args .depth) (read .e .given .0 .0) (found t read) (c .if1 .taken)
+    ∙ facts.listed-on (start .args .s .now) (turn .loop .inv))
+    (λ c. search needs)
+    (λ c. search needs)
+    -- the closing bracket
+    (λ c.
+    let read = c .before .before .before .before in
+    let turn = read .before .before .before in
+    let start = turn .before .before in
+    facts.list-closed (start .args .s .now) (turn .loop .i) (start .args .depth) (read .e .given .0 .0) (found t read) (search needs) (c .if2 .taken)
+    ∙ facts.listed-on (start .args .s .now) (turn .loop .inv))
+    -- another byte
+    (λ c.
+    let read = c .before .before .before .before .before in
+    let turn = read .before .before .before in
+    let start = turn .before .before in
+    facts.list-other (start .args .s .now) (turn .loop .i) (start .args .depth) (read .e .given .0 .0) (found t read) (search needs) (c .before .if2 .left) (c .if3 .taken)
+    ∙ facts.listed-on (start .args .s .now) (turn .loop .inv))
+    (λ c. search needs)
+    -- a blank: the turn ends further on, and what is listed from there is what was listed before
+    (λ c. let f = found t (c .before .before .before .before .before) in omega arith)
+    (λ c.
+    let read = c .before .before .before .before .before in
+    let turn = read .before .before .before in
+    let start = turn .before .before in
+    facts.list-more (start .args .s .now) (turn .loop .i) (start .args .depth) (read .e .given .0 .0) (found t read) (search needs) (c .if3 .left)
+    ∙ turn .loop .inv))
