@@ -1,3 +1,4 @@
 pub mod Lines
 pub mod Named
 mod Samples
+pub mod Front

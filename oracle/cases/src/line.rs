@@ -12,6 +12,9 @@ pub struct LineCase(pub Vec<u8>);
 /// The longest line, with its newline.
 pub const LONGEST: usize = 16_384;
 
+/// Bytes behind a longest line: more than a pipe holds.
+const MUCH_MORE: usize = 200_000;
+
 /// Lines that every run begins with: the worked ones, then each rule kept and broken by itself.
 const FIXED: &[&str] = &[
     "(assign 2 2 10 ((1 2) (- 4)))\n",
@@ -207,7 +210,9 @@ impl Case for LineCase {
     fn fixed() -> Vec<Self> {
         let around = [LONGEST - 1, LONGEST, LONGEST + 1];
         let long = around.into_iter().flat_map(|n| [full(n), overlong_row(n)]);
-        let owned = FIXED.iter().map(|line| line.to_string()).chain(long);
+        let more = [1, MUCH_MORE].map(|n| full(LONGEST) + &"x".repeat(n));
+        let owned = FIXED.iter().map(|line| line.to_string());
+        let owned = owned.chain(long).chain(more);
         owned.map(|line| LineCase(line.into_bytes())).collect()
     }
 

@@ -239,7 +239,8 @@ fn the_longest_line() {
     };
     assert!(answered.starts_with("(answer (pairs (0 "));
     assert_eq!(refused, "(refused 10)\n");
-    assert_eq!(answers(16_385), ["(refused 13)\n"; 2]);
+    assert_eq!(answers(16_385), ["(refused 13)\n"; 3]);
+    assert_eq!(answers(216_384), ["(refused 13)\n"]);
 }
 
 #[test]

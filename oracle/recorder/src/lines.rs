@@ -21,7 +21,7 @@ pub fn record(recording: &mut Recording) {
     }
 }
 
-/// The fixed lines that are short, one that is as long as a line may be, one that is a byte longer, and random ones.
+/// The fixed lines that are short, one that is as long as a line may be, two that are a byte longer, and random ones.
 fn recorded() -> Vec<LineCase> {
     let mut random = Random::new(SEED);
     let drawn = std::iter::repeat_with(|| LineCase::random(&mut random));
@@ -35,9 +35,10 @@ fn is_short(case: &LineCase) -> bool {
     case.0.len() <= SHORT
 }
 
-/// The most rows and columns, in the longest line or in one byte more.
+/// The most rows and columns, in the longest line or in one byte more, within the line or behind it.
 fn is_longest(case: &LineCase) -> bool {
-    case.0.len() >= LONGEST && case.0.starts_with(b"(assign 64 64 ")
+    let lengths = LONGEST..=LONGEST + 1;
+    lengths.contains(&case.0.len()) && case.0.starts_with(b"(assign 64 64 ")
 }
 
 #[cfg(test)]
@@ -46,7 +47,7 @@ mod tests {
 
     use super::*;
 
-    /// Every refusal is met, and both of the longest lines.
+    /// Every refusal is met, and the three longest lines.
     #[test]
     fn lines_of_every_kind() {
         let answers = |cases: &[LineCase]| cases.iter().map(Case::judged).collect::<BTreeSet<_>>();
@@ -58,7 +59,7 @@ mod tests {
         assert!(found.len() > LINES / 10);
         let longest: Vec<_> = cases.into_iter().filter(is_longest).collect();
         let lengths: Vec<usize> = longest.iter().map(|case| case.0.len()).collect();
-        assert_eq!(lengths, [LONGEST, LONGEST + 1]);
+        assert_eq!(lengths, [LONGEST, LONGEST + 1, LONGEST + 1]);
         assert_eq!(answers(&longest).len(), 2);
     }
 }

@@ -11,9 +11,6 @@ slice-aggregate-read-full c = search needs
 read-full-requires : tie.Need-read-full-requires
 read-full-requires c κs = search needs
 
-drain-requires : tie.Need-drain-requires
-drain-requires c κs = search needs
-
 array-share-prefix-input : tie.Need-array-share-prefix-input
 array-share-prefix-input c = search needs
 
@@ -39,4 +36,4 @@ returns : tie.Need-returns
 returns c = search needs
 
 pub main-spec : {M : Type 1} → statement M
-main-spec = tie.close (tie.spec slice-aggregate-read-full read-full-requires drain-requires array-share-prefix-input slice-aggregate-answer slice-aggregate-answer-2 answer-requires array-share-prefix-output slice-aggregate-write-all write-all-requires returns)
+main-spec = tie.close (tie.spec slice-aggregate-read-full read-full-requires array-share-prefix-input slice-aggregate-answer slice-aggregate-answer-2 answer-requires array-share-prefix-output slice-aggregate-write-all write-all-requires returns)
