@@ -2,17 +2,18 @@
 use mathlib.Core.Path.{_≡_, refl, ap, sym, _∙_}
 use mathlib.Core.Bool.{Bool, true, false, _&&_}
 use mathlib.Core.Option.{Option, none, some}
-use mathlib.Core.List.{List, [], _∷_, _++_}
+use mathlib.Core.List.{List, [], _∷_}
 use Prim.Native.Nat.{ℕ, suc, _+_, _-_, _*_, _<_, _≤_}
 use native.Mathlib.Numerals.{add-one}
 use native.Mathlib.Omega.{arith}
-use native.Mathlib.Nat.{suc-mul, zero-mul, mul-le-mul-right}
+use native.Mathlib.Nat.{mul-le-mul-right}
 use borrow.Author.Tests.{lt-ltb, le-ltb, lt-leb, le-leb, eqb-true}
 use lib.Dec.{eqb, leb}
 use lib.ListN.{length, take, drop, getD, length-append, length-drop, drop-of-length-le}
 use lib.Seq.{drop-cons}
 use lib.Ieee.{Float, binary64, ofBits}
 use Rattle.number.specs.Reply.{Reply}
+use Rattle.number.proofs.Zeros.{both}
 use Rattle.kuhn_munkres.specs.Assignment.{Pairs, inOne, assignmentReply}
 use Rattle.assignment.specs.Listing.{AssignmentAnswer, pairsIn}
 use Rattle.assignment.specs.declared.Assigned.{Assigned}
@@ -109,19 +110,14 @@ nothing-asked none h = refl
 nothing-asked (some q) h = absurd (let z : _≡_ {A = ℕ} 0 1 = cc in omega arith)
 
 -- rows of w make so many costs
-even-size : (w : ℕ) (t : List (List Float)) → even w t ≡ true → length (inOne t) ≡ length t * w
+pub even-size : (w : ℕ) (t : List (List Float)) → even w t ≡ true → length (inOne t) ≡ length t * w
 unfolding even inOne
-even-size w [] h = sym (zero-mul w)
-even-size w (r ∷ t) h = go (eqb (length r) w) refl (even-size w t) h
-  where
-    go : (b : Bool) → eqb (length r) w ≡ b → (even w t ≡ true → length (inOne t) ≡ length t * w) → b && even w t ≡ true → length (r ++ inOne t) ≡ suc (length t) * w
-    go true q f g =
-        let u : length r ≡ w = eqb-true _ _ q in
-        let v : length (inOne t) ≡ length t * w = f g in
-        let d : suc (length t) * w ≡ length t * w + w = suc-mul (length t) w in
-        let a : length (r ++ inOne t) ≡ length r + length (inOne t) = length-append r (inOne t) in
-        omega arith
-    go false q f g = absurd (let z : _≡_ {A = ℕ} 0 1 = cc in omega arith)
+even-size w [] h = omega arith
+even-size w (r ∷ t) h =
+    let p = both (eqb (length r) w) (even w t) h in
+    let a : length r ≡ w = eqb-true (length r) w (p .0) in
+    let b = even-size w t (p .1) in
+    length-append r (inOne t) ∙ omega arith
 
 module _ (read : Option Request) (r c : ℕ) (k : Float) (b : Bool) (g : AskedGot read r c k b) where
   pub decided-rows : 64 < r → refusedText 11 ≡ textOf (decided read)

@@ -5,9 +5,9 @@ use mathlib.Core.List.{List, [], _∷_}
 use mathlib.Core.Option.{some}
 use Prim.Native.Nat.{ℕ, zero, suc, _*_, _≤_, _<_}
 use native.Mathlib.Omega.{arith}
-use borrow.Author.Tests.{leb-true, eqb-true}
+use borrow.Author.Tests.{leb-true, le-leb, eqb-true}
 use lib.Dec.{eqb, leb}
-use lib.ListN.{getD, length, length-append}
+use lib.ListN.{getD, length}
 use lib.Ieee.{Float, nan, binary64, ofBits}
 use Rattle.number.specs.Reply.{given}
 use Rattle.number.proofs.Replies.{past-test}
@@ -16,13 +16,14 @@ use Rattle.whole.specs.Integer.{0Z, Within}
 use Rattle.whole.specs.Whole.{WholeValue, wholeOf}
 use Rattle.whole.proofs.Values.{is-whole, whole-same}
 use Rattle.lists.specs.Masks.{Every}
-use Rattle.kuhn_munkres.specs.Assignment.{Pairs, inOne, assignmentReply}
+use Rattle.kuhn_munkres.specs.Assignment.{Pairs, assignmentReply}
 use Rattle.least.specs.Least.{costAt, WholeCosts}
 use Rattle.least.proofs.Sentinel.{Ranged}
 use Rattle.least.proofs.Dense.{one-at}
 use Rattle.least.proofs.Answer.{assignment-least}
 use Rattle.request.specs.Request.{Request, requestOf, even, shaped}
 use Rattle.line.specs.Line.{formed, decided, replyTo}
+use Rattle.line.proofs.Lines.{even-size}
 use Rattle.line_least.specs.LeastLine.{costsIn, numberAt, LeastLine}
 use Rattle.line_least.proofs.Ranges.{Fit, Numbers, request-numbers}
 
@@ -35,15 +36,6 @@ even-wide w [] e i h = absurd (no i h)
     no i h = omega arith
 even-wide w (r ∷ t) e zero h = eqb-true (length r) w (both (eqb (length r) w) (even w t) e .0)
 even-wide w (r ∷ t) e (suc i) h = even-wide w t (both (eqb (length r) w) (even w t) e .1) i (omega arith)
-
-even-size : (w : ℕ) (t : List (List Float)) → even w t ≡ true → length (inOne t) ≡ length t * w
-unfolding even inOne
-even-size w [] e = omega arith
-even-size w (r ∷ t) e =
-    let p = both (eqb (length r) w) (even w t) e in
-    let a : length r ≡ w = eqb-true (length r) w (p .0) in
-    let b = even-size w t (p .1) in
-    length-append r (inOne t) ∙ omega arith
 
 every-at : {A : Type 0} (P : A → Type 0) (l : List A) (d : A) (i : ℕ) → Every P l → i < length l → P (getD l i d)
 unfolding Every
@@ -105,3 +97,14 @@ line-least l q a r e =
     let z = past-test (shaped q) 10 _ a (y .1) in
     let f = both (leb (q .sizes .rows) 64) (leb (q .sizes .columns) 64) (y .0) in
     least-of q (request-numbers l q r) (leb-true (q .sizes .rows) 64 (f .0)) (leb-true (q .sizes .columns) 64 (f .1)) (z .0) a (z .1)
+
+-- Of lines that ask for something within the limits, only those with a table of another shape are refused: no step on a line's numbers fails.
+pub line-answered :
+    (l : List ℕ) (q : Request) → formed l ≡ true → requestOf l ≡ some q → q .sizes .rows ≤ 64 → q .sizes .columns ≤ 64 → shaped q ≡ true
+    → (a : Pairs) × (replyTo l ≡ given a) × LeastLine q a
+unfolding replyTo decided
+line-answered l q f r few-rows few-columns has =
+    let whole-costs = wholes q (request-numbers l q r) few-rows few-columns has in
+    let T = assignment-least (costsIn q) (q .sizes .rows) (q .sizes .columns) (q .sizes .cost) (ofBits binary64 0) (numberAt q) (wholeOf (q .sizes .cost)) 0Z whole-costs in
+    let e : replyTo l ≡ given (T .answer) = rw (f, r, le-leb (q .sizes .rows) 64 few-rows, le-leb (q .sizes .columns) 64 few-columns, has) (T .given-it) in
+    (T .answer, e, record { pairing = T .pairing; least = T .least })

@@ -12,13 +12,14 @@ use lib.ListN.{length, drop}
 use lib.Ieee.{Float, inf, binary64, ofInt}
 use lib.Ieee.Back.{round-whole}
 use lib.Ieee.Scale.{finite}
-use Rattle.whole.specs.Integer.{Integer, natural, negZ, Within}
+use Rattle.whole.specs.Integer.{Within}
 use Rattle.whole.specs.Whole.{WholeValue}
 use Rattle.lists.specs.Masks.{Every}
 use Rattle.least.proofs.Sentinel.{Ranged}
 use Rattle.forms.specs.Shape.{pastWord}
 use Rattle.forms.specs.Decimal.{limited, valueOf, naturalOf, minus, plus, decimalOf}
 use Rattle.request.specs.Listed.{Reader, also, behind, upTo, listed, inside, bracketed}
+use Rattle.line_least.specs.LeastLine.{integerOf}
 use Rattle.request.specs.Request.{Sizes, Request, wordOf, dash, leaving, costOf, costIn, entryOf, blank, argumentOf, begins, opening, costed, columned, rowed, headOf, closing, closed, rowOf, tableOf, tabled, requestOf}
 
 no-none : {A B : Type 0} {x : A} → none ≡ some x → B
@@ -28,12 +29,8 @@ same-some : {A : Type 0} (x y : A) → some x ≡ some y → x ≡ y
 same-some x y e = cc
 
 -- ---- a decimal
-abbrev intOf : ℤ → Integer
-intOf (pos n) = natural n
-intOf (negsuc n) = negZ (natural (suc n))
-
 abbrev Small : ℤ → Type 0
-Small z = Within 1_000_000 (intOf z)
+Small z = Within 1_000_000 (integerOf z)
 
 limited-small : (o : Option ℕ) (n : ℕ) → limited o ≡ some n → n ≤ 1_000_000
 unfolding limited
@@ -74,10 +71,17 @@ decimal-small (b ∷ l) z e = go (eqb b 45) e
     go true w = minus-small (naturalOf l) z (natural-small l) w
     go false w = plus-small (naturalOf (b ∷ l)) z (natural-small (b ∷ l)) w
 
-int-ranged : (z : ℤ) → Small z → Ranged (ofInt binary64 z)
+int-exact : (z : ℤ) → Small z → WholeValue (ofInt binary64 z) (integerOf z)
 unfolding ofInt
-int-ranged (pos n) s = (natural n, record { minus = false; mag = n; val = round-whole binary64 false n (omega arith); is = omega arith }, s)
-int-ranged (negsuc n) s = (negZ (natural (suc n)), record { minus = true; mag = suc n; val = round-whole binary64 true (suc n) (omega arith); is = omega arith }, s)
+int-exact (pos n) s = record { minus = false; mag = n; val = round-whole binary64 false n (omega arith); is = omega arith }
+int-exact (negsuc n) s = record { minus = true; mag = suc n; val = round-whole binary64 true (suc n) (omega arith); is = omega arith }
+
+int-ranged : (z : ℤ) → Small z → Ranged (ofInt binary64 z)
+int-ranged z s = (integerOf z, int-exact z s, s)
+
+-- the double that stands for a decimal has exactly the decimal's value
+pub decimal-exact : (w : List ℕ) (z : ℤ) → decimalOf w ≡ some z → WholeValue (ofInt binary64 z) (integerOf z)
+decimal-exact w z e = int-exact z (decimal-small w z e)
 
 -- ---- an entry: a number in range, or one that forbids
 abbrev pub Fit : Float → Type 0

@@ -1,16 +1,22 @@
 -- What the answer to a line of the program `assign` means: of all pairings of the line's table, one of least total. 01, Line of the program `assign`: "rows and
 -- columns (0 or more), row cost, table"; "Column cost is 0."
-use Prim.Native.Nat.{ℕ}
+use Prim.Native.Nat.{ℕ, suc}
 use mathlib.Core.List.{List}
 use mathlib.Core.Option.{Option, none, some}
+use lib.IntN.{ℤ, pos, negsuc}
 use lib.Ieee.{Float}
 use Rattle.number.specs.Reply.{Reply, refused, given}
-use Rattle.whole.specs.Integer.{Integer, 0Z, _≤Z_}
+use Rattle.whole.specs.Integer.{Integer, 0Z, natural, negZ, _≤Z_}
 use Rattle.whole.specs.Whole.{wholeOf}
 use Rattle.kuhn_munkres.specs.Assignment.{Pair, Pairs, inOne}
 use Rattle.least.specs.Least.{Pairing, total, costAt, allowedIn}
 use Rattle.request.specs.Request.{Request, requestOf}
 use Rattle.line.specs.Line.{replyTo}
+
+-- a decimal as an integer
+abbrev pub integerOf : ℤ → Integer
+integerOf (pos n) = natural n
+integerOf (negsuc n) = negZ (natural (suc n))
 
 -- the table's costs, row after row, and the integer that stands at a place
 abbrev pub costsIn : Request → List Float
