@@ -13,6 +13,7 @@ use Rattle.number.specs.Reply.{Reply, refused, given, andThen}
 use Rattle.lists.specs.Masks.{zipped}
 use Rattle.kuhn_munkres.specs.Assignment.{Pair, Pairs, rowsOf, pairing, pairsOf, takersReply, assignmentReply}
 use Rattle.groups.proofs.Once.{pairing-sound}
+use Rattle.least.specs.Least.{LeastOnWholes}
 use Rattle.least.proofs.Answer.{assignment-least}
 use Rattle.assignment.specs.Listing.{padded, rowOf, columnIn, pairOf, assignmentOf, assignmentFor, pairsIn, Once, AssignmentAnswer}
 use Rattle.assignment.specs.Replies.{replyOf}
@@ -70,6 +71,12 @@ module _ (costs : List Float) (n m : ℕ) (rowCost columnCost : Float) where
       rows-ok hn hm true p true q (no z) = absurd (never 10 t (takersReply costs n m rowCost columnCost) (size-bad costs n m rowCost columnCost hn hm p q z) e)
       rows-ok hn hm true p true q (yes z) = record { rows-few = hn; columns-few = hm; size = z; is = sym (checked costs n m rowCost columnCost hn hm p q z) ∙ sym e }
 
+  -- as many takers as columns
+  pub takers-few : (t : List (Option ℕ)) → given t ≡ takersReply costs n m rowCost columnCost → length t ≤ 64
+  takers-few t e =
+      let p = passed t e in
+      omega (arith, p .columns-few, pairing-sound costs n m (p .rows-few) (p .columns-few) (p .size) rowCost columnCost t (p .is) .long)
+
   -- each row and column once
   pub once-all : (a : Pairs) → assignmentReply costs n m rowCost columnCost ≡ given a → Once n m a
   unfolding assignmentReply
@@ -84,19 +91,24 @@ module _ (costs : List Float) (n m : ℕ) (rowCost columnCost : Float) where
           let z : pairsOf n t ≡ a = cc in
           subst (Once n m) z (each-once t n (S .low) (S .inj) m (S .long))
 
+  -- what the answer holds, from the definition's reply
+  held : (r : Assigned) → replyOf (r .outcome) (pairsIn (r .assignment)) ≡ assignmentReply costs n m rowCost columnCost → r .assignment ≡ assignmentFor (assignmentReply costs n m rowCost columnCost) → AssignmentAnswer costs n m rowCost columnCost r
+  held r e a =
+      record {
+        is = e;
+        whole = a;
+        once = λ o. once-all (pairsIn (r .assignment)) (sym (told (r .outcome) Given (pairsIn (r .assignment)) _ o e));
+        least = subst (LeastOnWholes costs n m rowCost columnCost) (sym e) (assignment-least costs n m rowCost columnCost);
+      }
+
   pub answer-given : (t : List (Option ℕ)) (r : Assigned) → given t ≡ takersReply costs n m rowCost columnCost → r .outcome ≡ Given → r .assignment ≡ assignmentOf (pairsOf n t) → AssignmentAnswer costs n m rowCost columnCost r
   unfolding assignmentReply
   answer-given t r e o a =
       let w : given (pairsOf n t) ≡ assignmentReply costs n m rowCost columnCost = ap (λ (x : Reply (List (Option ℕ))). andThen x (λ y. given (pairsOf n y))) e in
-      record {
-        is = ap₂ (λ (x : Outcome) (y : Assignment). replyOf x (pairsIn y)) o a ∙ ap given (holds (pairsOf n t)) ∙ w;
-        whole = a ∙ ap assignmentFor w;
-        once = once-all;
-        least = assignment-least costs n m rowCost columnCost;
-      }
+      held r (ap₂ (λ (x : Outcome) (y : Assignment). replyOf x (pairsIn y)) o a ∙ ap given (holds (pairsOf n t)) ∙ w) (a ∙ ap assignmentFor w)
 
   pub answer-refused : (k : ℕ) (r : Assigned) → refused k ≡ takersReply costs n m rowCost columnCost → ((p : Pairs) → replyOf (r .outcome) p ≡ refused k) → r .assignment ≡ assignmentOf (record { pairs = []; rows = []; columns = [] }) → AssignmentAnswer costs n m rowCost columnCost r
   unfolding assignmentReply
   answer-refused k r e o a =
       let w : refused k ≡ assignmentReply costs n m rowCost columnCost = ap (λ (x : Reply (List (Option ℕ))). andThen x (λ y. given (pairsOf n y))) e in
-      record { is = o (pairsIn (r .assignment)) ∙ w; whole = a ∙ ap assignmentFor w; once = once-all; least = assignment-least costs n m rowCost columnCost }
+      held r (o (pairsIn (r .assignment)) ∙ w) (a ∙ ap assignmentFor w)

@@ -14,6 +14,7 @@ use Rattle.least.specs.Least.{LeastOnWholes}
 use Rattle.assignment.specs.Replies.{replyOf}
 use Rattle.assignment.specs.declared.Assignment.{Assignment}
 use Rattle.assignment.specs.declared.Assigned.{Assigned}
+use Rattle.assignment.specs.declared.Outcome.the-variants.{Given}
 
 unfoldable pub padded : List ℕ → List ℕ
 padded l = l ++ replicate (64 - length l) 0
@@ -75,8 +76,8 @@ pub record Once (n m : ℕ) (a : Pairs) : Type 0 where
 pub record AssignmentAnswer (costs : List Float) (n m : ℕ) (rowCost columnCost : Float) (r : Assigned) : Type 0 where
   pub is : replyOf (r .outcome) (pairsIn (r .assignment)) ≡ assignmentReply costs n m rowCost columnCost
   pub whole : r .assignment ≡ assignmentFor (assignmentReply costs n m rowCost columnCost)
-  pub once : (a : Pairs) → assignmentReply costs n m rowCost columnCost ≡ given a → Once n m a
-  pub least : LeastOnWholes costs n m rowCost columnCost (assignmentReply costs n m rowCost columnCost)
+  pub once : r .outcome ≡ Given → Once n m (pairsIn (r .assignment))
+  pub least : LeastOnWholes costs n m rowCost columnCost (replyOf (r .outcome) (pairsIn (r .assignment)))
 
 -- the column that row i takes is the r-th of m, or none where r is m
 pub record ColumnFound (takers : List (Option ℕ)) (m i r : ℕ) : Type 0 where

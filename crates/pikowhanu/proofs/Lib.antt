@@ -1,2 +1,3 @@
 pub mod Walks
+mod Told
 pub mod Mated

@@ -31,7 +31,7 @@ mates-more l n = ap (matesOf l) (add-one n)
 -- ---- pairs of the rows from i on
 module _ (t : List (Option ℕ)) where
   -- a row before them has none
-  late : (i j f : ℕ) → i < j → mateOf (pairsFrom t j f) i ≡ alone
+  pub late : (i j f : ℕ) → i < j → mateOf (pairsFrom t j f) i ≡ alone
   unfolding mateOf pairsFrom pairAt
   late i j zero h = refl
   late i j (suc f) h = go (columnOf j 0 t) (late i (suc j) f (omega arith))

@@ -4,13 +4,14 @@ use mathlib.Core.Bool.{Bool, cond, _&&_}
 use mathlib.Core.List.{List, [], _∷_, _++_, map}
 use mathlib.Core.Option.{Option}
 use Prim.Native.Nat.{ℕ, zero, suc, _≤_}
-use lib.ListN.{length, getD}
+use lib.ListN.{length, getD, take}
 use lib.Dec.{eqb, ltb, leb}
 use lib.Ieee.{Float}
 use Rattle.number.specs.Reply.{Reply, refused, given, codeOf, refuseUnless}
 use Rattle.lists.specs.Lay.{lay}
 use Rattle.kuhn_munkres.specs.Assignment.{Pair, Pairs, pairsFrom, assignmentReply}
-use Rattle.least.specs.Least.{LeastOnWholes}
+use Rattle.whole.specs.Integer.{Integer, _≤Z_}
+use Rattle.least.specs.Least.{Pairing, total, allowedIn, WholeCosts}
 use Rattle.assignment.specs.Listing.{padded, rowOf, columnIn}
 
 -- 2⁶⁴ − 1, for a row that is left alone
@@ -37,11 +38,22 @@ abbrev pub matesAfter : ℕ → Reply Pairs → List ℕ → List ℕ
 matesAfter n (refused k) before = before
 matesAfter n (given a) before = lay (matesOf (a .pairs) n) before
 
+-- the pairs that the mates of rows i, i + 1, .. tell
+unfoldable pub pairsTold : ℕ → List ℕ → List Pair
+pairsTold i [] = []
+pairsTold i (c ∷ l) = let later = pairsTold (suc i) l in cond (eqb c alone) later (record { row = i; column = c } ∷ later)
+
+-- a call whose code is 0, and whose mates tell a pairing of least total
+pub record LeastMates (costs : List Float) (n m : ℕ) (cost : ℕ → ℕ → Integer) (row column : Integer) (r : ℕ) (after : List ℕ) : Type 0 where
+  pub answered : r ≡ 0
+  pub pairing : Pairing (allowedIn costs m) n m (pairsTold 0 (take n after))
+  pub least : (other : List Pair) → Pairing (allowedIn costs m) n m other → total cost row column n m (pairsTold 0 (take n after)) ≤Z total cost row column n m other
+
 -- the whole call: its code, what stands in mates afterwards, and, where there is room, the least total on whole costs
 pub record AssignmentCall (costs : List Float) (n m : ℕ) (rowCost columnCost : Float) (r : ℕ) (before after : List ℕ) : Type 0 where
   pub code : r ≡ codeOf (matesReply costs n m rowCost columnCost (length before))
   pub mates : after ≡ matesAfter n (matesReply costs n m rowCost columnCost (length before)) before
-  pub least : n ≤ length before → LeastOnWholes costs n m rowCost columnCost (matesReply costs n m rowCost columnCost (length before))
+  pub least : n ≤ length before → (cost : ℕ → ℕ → Integer) (row column : Integer) → WholeCosts costs n m rowCost columnCost cost row column → LeastMates costs n m cost row column r after
 
 -- ---- the walk over the rows, beside the pairs by ascending row
 -- the k-th of count pairs is row i's
