@@ -10,9 +10,8 @@ use borrow.Author.Tests.{eq-eqb, ne-eqb}
 use lib.Dec.{eqb}
 use lib.ListN.{length, drop, getD, length-drop, drop-of-length-le}
 use lib.Seq.{drop-cons, drop-drop}
-use Rattle.forms.specs.Shape.{wordByte, pastWord, wordEnd, behind, formsOf, word, inside, bracketed, formOf, listOf, readOf}
-use Rattle.forms.specs.declared.Read.{Read}
-use Rattle.forms.specs.declared.Read.the-variants.{Next, Refused}
+use Rattle.number.specs.Reply.{refused, given}
+use Rattle.forms.specs.Shape.{wordByte, pastWord, wordEnd, behind, formsOf, word, inside, bracketed, formOf, listOf, placeReply}
 
 -- ---- a word's bytes
 pub word-rest : (b : ℕ) → (b ≡ 32 → ⊥) → (b ≡ 10 → ⊥) → (b ≡ 40 → ⊥) → not (eqb b 41) ≡ wordByte b
@@ -179,7 +178,7 @@ pub list-is : (d : ℕ) (l : List ℕ) → listOf d l ≡ behind (listOf d) (for
 list-is d l = forms-is (formOf d) (form-shrinks d) l
 
 -- ---- what an answer says
-pub next-at : (s : List ℕ) (k : ℕ) → k ≤ length s → Next k ≡ readOf s (some (drop k s))
+pub next-at : (s : List ℕ) (k : ℕ) → k ≤ length s → given k ≡ placeReply s (some (drop k s))
 next-at s k h = let e : length s - length (drop k s) ≡ k = simp (length-drop) (omega arith) in rw e
 
 pub record Found (s : List ℕ) (at : ℕ) (d : ℕ) (e : ℕ) : Type 0 where
@@ -187,10 +186,10 @@ pub record Found (s : List ℕ) (at : ℕ) (d : ℕ) (e : ℕ) : Type 0 where
   pub past : at < e
   pub within : e ≤ length s
 
-pub read-next : (s : List ℕ) (at d e : ℕ) → Next e ≡ readOf s (formOf d (drop at s)) → Found s at d e
+pub read-next : (s : List ℕ) (at d e : ℕ) → given e ≡ placeReply s (formOf d (drop at s)) → Found s at d e
 read-next s at d e h = go (formOf d (drop at s)) refl h
   where
-    go : (o : Option (List ℕ)) → formOf d (drop at s) ≡ o → Next e ≡ readOf s o → Found s at d e
+    go : (o : Option (List ℕ)) → formOf d (drop at s) ≡ o → given e ≡ placeReply s o → Found s at d e
     go none q g = absurd (let z : _≡_ {A = ℕ} 0 1 = cc in omega arith)
     go (some r) q g =
         let t : Tail (drop at s) r = form-shrinks d (drop at s) r q in
@@ -199,28 +198,28 @@ read-next s at d e h = go (formOf d (drop at s)) refl h
         let w : length r < length s - at = rw length-drop at (shorter t) in
         record { left = q ∙ ap (λ (m : List ℕ). some m) (v ∙ ap (λ (n : ℕ). drop n s) (sym u)); past = omega arith; within = omega arith }
 
-pub read-refused : (s : List ℕ) (at d : ℕ) → Refused ≡ readOf s (formOf d (drop at s)) → formOf d (drop at s) ≡ none
+pub read-refused : (s : List ℕ) (at d : ℕ) → refused 13 ≡ placeReply s (formOf d (drop at s)) → formOf d (drop at s) ≡ none
 read-refused s at d h = go (formOf d (drop at s)) h
   where
-    go : (o : Option (List ℕ)) → Refused ≡ readOf s o → o ≡ none
+    go : (o : Option (List ℕ)) → refused 13 ≡ placeReply s o → o ≡ none
     go none g = refl
     go (some r) g = absurd (let z : _≡_ {A = ℕ} 0 1 = cc in omega arith)
 
 -- ---- the list reader's answers
 module _ (s : List ℕ) (at d : ℕ) where
-  pub list-refused : formOf d (drop at s) ≡ none → Refused ≡ readOf s (listOf d (drop at s))
+  pub list-refused : formOf d (drop at s) ≡ none → refused 13 ≡ placeReply s (listOf d (drop at s))
   unfolding behind
   list-refused h = rw (list-is d (drop at s), h)
 
   module _ (e : ℕ) (f : Found s at d e) where
-    pub list-ends : length s ≤ e → Refused ≡ readOf s (listOf d (drop at s))
+    pub list-ends : length s ≤ e → refused 13 ≡ placeReply s (listOf d (drop at s))
     unfolding behind
     list-ends h = rw (list-is d (drop at s), f .left, drop-of-length-le s h)
 
     list-steps : e < length s → listOf d (drop at s) ≡ behind (listOf d) (some (getD s e 0 ∷ drop (e + 1) s))
     list-steps h = rw (list-is d (drop at s), f .left, drop-cons s e 0, ← add-one)
 
-    pub list-closed : e < length s → getD s e 0 ≡ 41 → Next (e + 1) ≡ readOf s (listOf d (drop at s))
+    pub list-closed : e < length s → getD s e 0 ≡ 41 → given (e + 1) ≡ placeReply s (listOf d (drop at s))
     unfolding behind
     list-closed h g = next-at s (e + 1) (omega arith) ∙ rw (list-steps h, g)
 
@@ -228,17 +227,17 @@ module _ (s : List ℕ) (at d : ℕ) where
     unfolding behind
     list-more h g = rw (list-steps h, g)
 
-    pub list-other : e < length s → (getD s e 0 ≡ 41 → ⊥) → (getD s e 0 ≡ 32 → ⊥) → Refused ≡ readOf s (listOf d (drop at s))
+    pub list-other : e < length s → (getD s e 0 ≡ 41 → ⊥) → (getD s e 0 ≡ 32 → ⊥) → refused 13 ≡ placeReply s (listOf d (drop at s))
     unfolding behind
     list-other h g k = rw (list-steps h, ne-eqb _ _ g, ne-eqb _ _ k)
 
 -- what is read of a list's later part is read of the whole
-pub listed-on : (s : List ℕ) {o p : Option (List ℕ)} → o ≡ p → readOf s o ≡ readOf s p
-listed-on s e = ap (λ (o : Option (List ℕ)). readOf s o) e
+pub listed-on : (s : List ℕ) {o p : Option (List ℕ)} → o ≡ p → placeReply s o ≡ placeReply s p
+listed-on s e = ap (λ (o : Option (List ℕ)). placeReply s o) e
 
 -- ---- the form reader's answers
 module _ (s : List ℕ) (at d : ℕ) where
-  pub form-ends : length s ≤ at → Refused ≡ readOf s (formOf d (drop at s))
+  pub form-ends : length s ≤ at → refused 13 ≡ placeReply s (formOf d (drop at s))
   form-ends h = rw (drop-of-length-le s h, at-none (formOf d) (form-shrinks d))
 
   module _ (h : at < length s) where
@@ -253,15 +252,15 @@ module _ (s : List ℕ) (at d : ℕ) where
         go zero = refl
         go (suc k) = rw (ne-eqb _ _ g)
 
-    pub form-word : (getD s at 0 ≡ 40 → ⊥) → wordByte (getD s at 0) ≡ true → (r : ℕ) → r ≤ length s → drop r s ≡ pastWord (drop (at + 1) s) → Next r ≡ readOf s (formOf d (drop at s))
+    pub form-word : (getD s at 0 ≡ 40 → ⊥) → wordByte (getD s at 0) ≡ true → (r : ℕ) → r ≤ length s → drop r s ≡ pastWord (drop (at + 1) s) → given r ≡ placeReply s (formOf d (drop at s))
     unfolding word
     form-word g k r w e = next-at s r w ∙ rw (at-word g, k, e)
 
-    pub form-other : (getD s at 0 ≡ 40 → ⊥) → wordByte (getD s at 0) ≡ false → Refused ≡ readOf s (formOf d (drop at s))
+    pub form-other : (getD s at 0 ≡ 40 → ⊥) → wordByte (getD s at 0) ≡ false → refused 13 ≡ placeReply s (formOf d (drop at s))
     unfolding word
     form-other g k = rw (at-word g, k)
 
-    pub form-deep : getD s at 0 ≡ 40 → d ≡ 0 → Refused ≡ readOf s (formOf d (drop at s))
+    pub form-deep : getD s at 0 ≡ 40 → d ≡ 0 → refused 13 ≡ placeReply s (formOf d (drop at s))
     unfolding word formOf
     form-deep g z = rw (z, opens, g)
 
@@ -270,7 +269,7 @@ module _ (s : List ℕ) (at d : ℕ) where
       unfolding formOf bracketed
       into = let z : d ≡ suc (d - 1) = omega arith in rw (opens, g) (ap (λ (k : ℕ). formOf k (40 ∷ drop (at + 1) s)) z)
 
-      pub form-open : length s ≤ at + 1 → Refused ≡ readOf s (formOf d (drop at s))
+      pub form-open : length s ≤ at + 1 → refused 13 ≡ placeReply s (formOf d (drop at s))
       unfolding inside
       form-open w = rw (into, drop-of-length-le s w)
 
@@ -278,10 +277,10 @@ module _ (s : List ℕ) (at d : ℕ) where
         opens′ : drop (at + 1) s ≡ getD s (at + 1) 0 ∷ drop (at + 1 + 1) s
         opens′ = drop-cons s (at + 1) 0 w ∙ rw (add-one (at + 1))
 
-        pub form-empty : getD s (at + 1) 0 ≡ 41 → Next (at + 1 + 1) ≡ readOf s (formOf d (drop at s))
+        pub form-empty : getD s (at + 1) 0 ≡ 41 → given (at + 1 + 1) ≡ placeReply s (formOf d (drop at s))
         unfolding inside
         form-empty k = next-at s (at + 1 + 1) (omega arith) ∙ rw (into, opens′, k)
 
-        pub form-list : (getD s (at + 1) 0 ≡ 41 → ⊥) → readOf s (listOf (d - 1) (drop (at + 1) s)) ≡ readOf s (formOf d (drop at s))
+        pub form-list : (getD s (at + 1) 0 ≡ 41 → ⊥) → placeReply s (listOf (d - 1) (drop (at + 1) s)) ≡ placeReply s (formOf d (drop at s))
         unfolding inside
         form-list k = rw (into, opens′, ne-eqb _ _ k)

@@ -5,6 +5,7 @@ use mathlib.Core.List.{List, [], _∷_}
 use Prim.Native.Nat.{ℕ, zero, suc, _+_, _-_, _*_}
 use lib.Dec.{eqb, leb}
 use lib.IntN.{ℤ, pos, negsuc}
+use Rattle.number.specs.Reply.{Reply, refused, given}
 use Rattle.forms.specs.declared.decimal.Natural.{Natural}
 use Rattle.forms.specs.declared.decimal.Natural.the-variants.{Count, NoCount}
 use Rattle.forms.specs.declared.decimal.Decimal.{Decimal}
@@ -43,12 +44,22 @@ unfoldable pub decimalOf : List ℕ → Option ℤ
 decimalOf [] = none
 decimalOf (b ∷ l) = cond (eqb b 45) (minus (naturalOf l)) (plus (naturalOf (b ∷ l)))
 
--- as answers
-abbrev pub countOf : Option ℕ → Natural
-countOf none = NoCount
-countOf (some n) = Count n
+-- ---- as replies. 01: "13 for .. a number out of range"
+abbrev pub naturalReply : Option ℕ → Reply ℕ
+naturalReply none = refused 13
+naturalReply (some n) = given n
 
-abbrev pub answerOf : Option ℤ → Decimal
-answerOf none = NoValue
-answerOf (some (pos n)) = Plus n
-answerOf (some (negsuc n)) = Minus (suc n)
+abbrev pub replyOfNatural : Natural → Reply ℕ
+replyOfNatural (Count n) = given n
+replyOfNatural NoCount = refused 13
+
+-- whether it is below zero, and its size
+abbrev pub decimalReply : Option ℤ → Reply (Bool × ℕ)
+decimalReply none = refused 13
+decimalReply (some (pos n)) = given (false, n)
+decimalReply (some (negsuc n)) = given (true, suc n)
+
+abbrev pub replyOfDecimal : Decimal → Reply (Bool × ℕ)
+replyOfDecimal (Plus n) = given (false, n)
+replyOfDecimal (Minus n) = given (true, n)
+replyOfDecimal NoValue = refused 13

@@ -7,6 +7,7 @@ use mathlib.Core.List.{List, [], _∷_}
 use Prim.Native.Nat.{ℕ, zero, suc, _+_, _-_}
 use lib.Dec.{eqb}
 use lib.ListN.{length, drop}
+use Rattle.number.specs.Reply.{Reply, refused, given}
 use Rattle.forms.specs.declared.Read.{Read}
 use Rattle.forms.specs.declared.Read.the-variants.{Next, Refused}
 
@@ -56,7 +57,11 @@ formOf (suc d) l = bracketed (formOf d) l
 abbrev pub listOf : ℕ → List ℕ → Option (List ℕ)
 listOf d l = formsOf (formOf d) (length l) l
 
--- as an answer: the place in s of what is left
-abbrev pub readOf : List ℕ → Option (List ℕ) → Read
-readOf s none = Refused
-readOf s (some l) = Next (length s - length l)
+-- as a reply: the place in s of what is left, and 13 where no form stands. 01, Line of the program `assign`: "13 for another shape"
+abbrev pub placeReply : List ℕ → Option (List ℕ) → Reply ℕ
+placeReply s none = refused 13
+placeReply s (some l) = given (length s - length l)
+
+abbrev pub replyOfRead : Read → Reply ℕ
+replyOfRead (Next e) = given e
+replyOfRead Refused = refused 13

@@ -1,6 +1,6 @@
 // Decimal numbers from -1,000,000 to 1,000,000, read from a word's bytes.
 ghost use mathlib.Core.Path.{_≡_};
-ghost use Rattle.forms.specs.Decimal.{valueOf, limited, naturalOf, countOf, decimalOf, answerOf};
+ghost use Rattle.forms.specs.Decimal.{valueOf, limited, naturalOf, naturalReply, replyOfNatural, decimalOf, decimalReply, replyOfDecimal};
 
 // Digits' value, or that there is none in the range.
 pub enum Natural {
@@ -23,7 +23,7 @@ fn wide(x: u8) -> u32
 
 // Digits, to at most 1,000,000.
 fn value(w: &[u8]) -> Natural
-    ensures { λ r. ⌜ r ≡ countOf (limited (valueOf 0 (now (w .entry)))) ⌝ }
+    ensures { λ r. ⌜ replyOfNatural r ≡ naturalReply (limited (valueOf 0 (now (w .entry)))) ⌝ }
 {
     let mut v: u32 = 0;
     let mut i: usize = 0;
@@ -46,7 +46,7 @@ fn value(w: &[u8]) -> Natural
 
 // The same with no leading zero.
 pub fn count(w: &[u8]) -> Natural
-    ensures { λ r. ⌜ r ≡ countOf (naturalOf (now (w .entry))) ⌝ }
+    ensures { λ r. ⌜ replyOfNatural r ≡ naturalReply (naturalOf (now (w .entry))) ⌝ }
 {
     if w.len() == 0 {
         return Natural::NoCount;
@@ -62,7 +62,7 @@ pub fn count(w: &[u8]) -> Natural
 
 // A number with its sign; there is no `-0`.
 pub fn number(w: &[u8]) -> Decimal
-    ensures { λ r. ⌜ r ≡ answerOf (decimalOf (now (w .entry))) ⌝ }
+    ensures { λ r. ⌜ replyOfDecimal r ≡ decimalReply (decimalOf (now (w .entry))) ⌝ }
 {
     if w.len() == 0 {
         return Decimal::NoValue;

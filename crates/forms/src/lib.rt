@@ -3,7 +3,7 @@ pub mod decimal;
 
 ghost use mathlib.Core.Path.{_≡_};
 ghost use lib.ListN.{drop};
-ghost use Rattle.forms.specs.Shape.{wordByte, wordEnd, formOf, listOf, readOf};
+ghost use Rattle.forms.specs.Shape.{wordByte, wordEnd, formOf, listOf, placeReply, replyOfRead};
 
 // The place behind what was read, or that it does not stand there.
 pub enum Read {
@@ -43,7 +43,7 @@ pub fn past_word(s: &[u8], from: usize) -> usize
 
 // A form that starts at `at`, at most `depth` brackets deep.
 pub fn form(s: &[u8], at: usize, depth: usize) -> Read
-    ensures { λ r. ⌜ r ≡ readOf (now (s .entry)) (formOf depth (drop at (now (s .entry)))) ⌝ }
+    ensures { λ r. ⌜ replyOfRead r ≡ placeReply (now (s .entry)) (formOf depth (drop at (now (s .entry)))) ⌝ }
 {
     if s.len() <= at {
         return Read::Refused;
@@ -70,7 +70,7 @@ pub fn form(s: &[u8], at: usize, depth: usize) -> Read
 
 // One form or more from `at` on, single blanks between them, and the closing bracket.
 pub fn list(s: &[u8], at: usize, depth: usize) -> Read
-    ensures { λ r. ⌜ r ≡ readOf (now (s .entry)) (listOf depth (drop at (now (s .entry)))) ⌝ }
+    ensures { λ r. ⌜ replyOfRead r ≡ placeReply (now (s .entry)) (listOf depth (drop at (now (s .entry)))) ⌝ }
 {
     let mut i = at;
     loop {

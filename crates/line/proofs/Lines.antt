@@ -12,19 +12,18 @@ use lib.Dec.{eqb, leb}
 use lib.ListN.{length, take, drop, getD, length-append, length-drop, drop-of-length-le}
 use lib.Seq.{drop-cons}
 use lib.Ieee.{Float, binary64, ofBits}
-use Rattle.number.specs.Reply.{Reply}
+use Rattle.number.specs.Reply.{Reply, refused, given}
 use Rattle.number.proofs.Zeros.{both}
 use Rattle.kuhn_munkres.specs.Assignment.{Pairs, inOne, assignmentReply}
 use Rattle.assignment.specs.Listing.{AssignmentAnswer, pairsIn}
 use Rattle.assignment.specs.declared.Assigned.{Assigned}
 use Rattle.assignment.specs.declared.Outcome.the-variants.{Given, TooMany, NonFinite, Failed}
-use Rattle.forms.specs.Shape.{formOf, readOf}
+use Rattle.forms.specs.Shape.{formOf, placeReply}
 use Rattle.forms.proofs.Shapes.{read-next, read-refused}
-use Rattle.forms.specs.declared.Read.the-variants.{Next, Refused}
 use Rattle.request.specs.Request.{Request, requestOf, shaped, even}
-use Rattle.request.specs.Asking.{askedOf, noCosts, costsOf}
+use Rattle.request.specs.Asking.{Stated, askedReply, replyOfAsked, noCosts, costsOf}
 use Rattle.request.proofs.Asks.{over-front}
-use Rattle.request.specs.declared.Asked.the-variants.{Table, NoRequest}
+use Rattle.request.specs.declared.Asked.the-variants.{Table}
 use Rattle.text.specs.Text.{refusedText, answerText, textOf}
 use Rattle.line.specs.Line.{whole, formed, decided, replyTo, answerOf}
 
@@ -39,11 +38,11 @@ module _ (s : List ℕ) where
     unfolding formed
     formed-is = rw (le-ltb 16384 (length s) h)
 
-    pub formed-none : Refused ≡ readOf s (formOf 4 (drop 0 s)) → false ≡ formed s
+    pub formed-none : refused 13 ≡ placeReply s (formOf 4 (drop 0 s)) → false ≡ formed s
     unfolding whole
     formed-none g = rw (formed-is, read-refused s 0 4 g)
 
-    module _ (e : ℕ) (g : Next e ≡ readOf s (formOf 4 (drop 0 s))) where
+    module _ (e : ℕ) (g : given e ≡ placeReply s (formOf 4 (drop 0 s))) where
       found : formOf 4 s ≡ some (drop e s)
       found = read-next s 0 4 e g .left
 
@@ -100,11 +99,21 @@ pub record AskedGot (read : Option Request) (r c : ℕ) (k : Float) (b : Bool) :
   pub cost-is : k ≡ asked .sizes .cost
   pub shaped-is : b ≡ shaped asked
 
-pub asked-got : (read : Option Request) (r c : ℕ) (k : Float) (b : Bool) → Table r c k b ≡ askedOf read → AskedGot read r c k b
+pub asked-got : (read : Option Request) (r c : ℕ) (k : Float) (b : Bool) → replyOfAsked (Table r c k b) ≡ askedReply read → AskedGot read r c k b
 asked-got none r c k b h = absurd (let z : _≡_ {A = ℕ} 0 1 = cc in omega arith)
-asked-got (some q) r c k b h = record { asked = q; is = refl; rows-are = cc; columns-are = cc; cost-is = cc; shaped-is = cc }
+asked-got (some q) r c k b h =
+    let x : Stated = record { sizes = record { rows = r; columns = c; cost = k }; shaped-table = b } in
+    let e : x ≡ record { sizes = q .sizes; shaped-table = shaped q } = cc in
+    record {
+      asked = q;
+      is = refl;
+      rows-are = ap (λ (y : Stated). y .sizes .rows) e;
+      columns-are = ap (λ (y : Stated). y .sizes .columns) e;
+      cost-is = ap (λ (y : Stated). y .sizes .cost) e;
+      shaped-is = ap (λ (y : Stated). y .shaped-table) e;
+    }
 
-pub nothing-asked : (read : Option Request) → NoRequest ≡ askedOf read → refusedText 13 ≡ textOf (decided read)
+pub nothing-asked : (read : Option Request) → refused 13 ≡ askedReply read → refusedText 13 ≡ textOf (decided read)
 unfolding decided textOf
 nothing-asked none h = refl
 nothing-asked (some q) h = absurd (let z : _≡_ {A = ℕ} 0 1 = cc in omega arith)

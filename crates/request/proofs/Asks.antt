@@ -12,11 +12,12 @@ use lib.IntN.{ℤ, pos, negsuc}
 use lib.ListN.{length, take, drop, getD, set, length-append, length-drop, drop-of-length-le}
 use lib.Seq.{sets, drop-cons}
 use lib.Ieee.{Float}
+use Rattle.number.specs.Reply.{refused}
 use Rattle.kuhn_munkres.specs.Assignment.{inOne}
 use Rattle.forms.proofs.Shapes.{Tail, one, more, on, inner}
 use Rattle.request.specs.Listed.{after, told, bracketed}
 use Rattle.request.specs.Request.{argumentOf, begins, opening, Sizes, costed, columned, rowed, headOf, headAnswer, Request, closing, closed, tableOf, tabled, requestOf, even, shaped, Stored, storeOne, Filled, fillRow, rowsAnswer, TableRead, tableTold, rowOf}
-use Rattle.request.specs.Asking.{askedOf, over, noCosts, readingOf, AskedRead}
+use Rattle.request.specs.Asking.{askedReply, replyOfAsked, over, noCosts, ReadingAnswer, AskedRead}
 use Rattle.request.specs.declared.head.Head.the-variants.{Stated, NoHead}
 use Rattle.request.specs.declared.table.Rows.the-variants.{Read, NoRows}
 use Rattle.request.specs.declared.Asked.{Asked}
@@ -251,10 +252,10 @@ module _ (s : List ℕ) where
           }
 
 -- ---- the reading
-pub nothing-read : (read : Option Request) (a : Asked) → a ≡ NoRequest → a ≡ askedOf read → record { asked = a; costs = noCosts } ≡ readingOf read
-nothing-read none a e h = λ i. record { asked = h i; costs = noCosts }
-nothing-read (some q) a e h = absurd (let z : _≡_ {A = ℕ} 0 1 = cc in omega arith)
+pub nothing-read : (read : Option Request) (a : Asked) → a ≡ NoRequest → replyOfAsked a ≡ askedReply read → ReadingAnswer read (record { asked = a; costs = noCosts })
+nothing-read none a e h = record { is = h; costs-are = refl }
+nothing-read (some q) a e h = let w : refused 13 ≡ askedReply (some q) = sym (ap replyOfAsked e) ∙ h in absurd (let z : _≡_ {A = ℕ} 0 1 = cc in omega arith)
 
-pub all-read : (read : Option Request) (o : List Float) (a : Asked) (r c : ℕ) (k : Float) (b : Bool) → a ≡ Table r c k b → AskedRead read noCosts a o → record { asked = a; costs = o } ≡ readingOf read
-all-read none o a r c k b e w = absurd (let h = w .is in let z : _≡_ {A = ℕ} 0 1 = cc in omega arith)
-all-read (some q) o a r c k b e w = λ i. record { asked = w .is i; costs = w .holds q refl i }
+pub all-read : (read : Option Request) (o : List Float) (a : Asked) (r c : ℕ) (k : Float) (b : Bool) → a ≡ Table r c k b → AskedRead read noCosts a o → ReadingAnswer read (record { asked = a; costs = o })
+all-read none o a r c k b e w = let h : replyOfAsked (Table r c k b) ≡ refused 13 = sym (ap replyOfAsked e) ∙ w .is in absurd (let z : _≡_ {A = ℕ} 0 1 = cc in omega arith)
+all-read (some q) o a r c k b e w = record { is = w .is; costs-are = w .holds q refl }

@@ -1,6 +1,6 @@
 -- Words: what a number's and an entry's answers say.
 use mathlib.Core.Path.{_≡_, refl, ap, sym, _∙_}
-use mathlib.Core.Bool.{Bool, true, false, cond, not, _&&_}
+use mathlib.Core.Bool.{Bool, true, false, cond, not, _&&_, true≢false}
 use mathlib.Core.Option.{Option, none, some}
 use mathlib.Core.List.{List, [], _∷_}
 use Prim.Native.Nat.{ℕ, zero, suc, _+_, _-_, _*_, _^_, _/_, _%_, _<_, _≤_, compare}
@@ -12,10 +12,10 @@ use lib.IntN.{ℤ, pos, negsuc}
 use lib.ListN.{length, take, drop, getD, length-drop, drop-of-length-le}
 use lib.Seq.{drop-cons}
 use lib.Ieee.{Float, Format, binary64, ofInt, ofBits, ofFields, inf, fin, nan, neg, round, units, odd, low, prec, emax, size, nearest}
+use Rattle.number.specs.Reply.{refused, given}
 use Rattle.forms.specs.Shape.{pastWord, wordEnd}
 use Rattle.forms.proofs.Shapes.{Tail, one, more, on, past-tail, Passed, passed}
-use Rattle.forms.specs.Decimal.{decimalOf, answerOf}
-use Rattle.forms.specs.declared.decimal.Decimal.the-variants.{Plus as DPlus, Minus as DMinus, NoValue}
+use Rattle.forms.specs.Decimal.{decimalOf, decimalReply}
 use Rattle.request.specs.Request.{wordOf, dash, leaving, costOf, costIn, entryOf, blank, argumentOf, begins, numberedOf, itemOf}
 use Rattle.request.specs.declared.words.Numbered.the-variants.{Plus, Minus, NoNumber}
 use Rattle.request.specs.declared.words.Item.the-variants.{Cost, NoItem}
@@ -70,15 +70,19 @@ begins-long (b ∷ t) (c ∷ l) h = go (eqb c b) (begins-long t l) h
     go false f e = absurd (let z : _≡_ {A = ℕ} 0 1 = cc in omega arith)
 
 -- ---- what a decimal's answer says
-pub no-value : (o : Option ℤ) → NoValue ≡ answerOf o → o ≡ none
+pub no-value : (o : Option ℤ) → refused 13 ≡ decimalReply o → o ≡ none
 no-value none h = refl
 no-value (some (pos n)) h = absurd (let z : _≡_ {A = ℕ} 0 1 = cc in omega arith)
 no-value (some (negsuc n)) h = absurd (let z : _≡_ {A = ℕ} 0 1 = cc in omega arith)
 
-pub plus-value : (o : Option ℤ) (n : ℕ) → DPlus n ≡ answerOf o → o ≡ some (pos n)
+-- sign and size of a decimal that is given
+sized : (x y : Bool × ℕ) → given x ≡ given y → (x .0 ≡ y .0) × (x .1 ≡ y .1)
+sized x y e = let z : x ≡ y = cc in (ap (λ (p : Bool × ℕ). p .0) z, ap (λ (p : Bool × ℕ). p .1) z)
+
+pub plus-value : (o : Option ℤ) (n : ℕ) → given (false, n) ≡ decimalReply o → o ≡ some (pos n)
 plus-value none n h = absurd (let z : _≡_ {A = ℕ} 0 1 = cc in omega arith)
-plus-value (some (pos m)) n h = cc
-plus-value (some (negsuc m)) n h = absurd (let z : _≡_ {A = ℕ} 0 1 = cc in omega arith)
+plus-value (some (pos m)) n h = ap (λ (k : ℕ). some (pos k)) (sym (sized (false, n) (false, m) h .1))
+plus-value (some (negsuc m)) n h = absurd (true≢false (sym (sized (false, n) (true, suc m) h .0)))
 
 -- a size below zero is at least 1
 pub record Below (o : Option ℤ) (n : ℕ) : Type 0 where
@@ -86,10 +90,10 @@ pub record Below (o : Option ℤ) (n : ℕ) : Type 0 where
   pub one-less : n ≡ suc less
   pub is : o ≡ some (negsuc less)
 
-pub minus-value : (o : Option ℤ) (n : ℕ) → DMinus n ≡ answerOf o → Below o n
+pub minus-value : (o : Option ℤ) (n : ℕ) → given (true, n) ≡ decimalReply o → Below o n
 minus-value none n h = absurd (let z : _≡_ {A = ℕ} 0 1 = cc in omega arith)
-minus-value (some (pos m)) n h = absurd (let z : _≡_ {A = ℕ} 0 1 = cc in omega arith)
-minus-value (some (negsuc m)) n h = record { less = m; one-less = cc; is = refl }
+minus-value (some (pos m)) n h = absurd (true≢false (sized (true, n) (false, m) h .0))
+minus-value (some (negsuc m)) n h = record { less = m; one-less = sized (true, n) (true, suc m) h .1; is = refl }
 
 -- ---- a number below zero as a double is its size's with the other sign
 neg-odd : (d q k l : ℕ) → neg (odd d false q k l) ≡ odd d true q k l

@@ -7,7 +7,7 @@ ghost use mathlib.Core.Path.{_≡_};
 ghost use Prim.Native.Nat.{_≤_};
 ghost use lib.ListN.{length, drop};
 ghost use Rattle.request.specs.Request.{closing, requestOf};
-ghost use Rattle.request.specs.Asking.{AskedRead, readingOf};
+ghost use Rattle.request.specs.Asking.{AskedRead, ReadingAnswer};
 use head::Head;
 use table::Rows;
 
@@ -60,7 +60,7 @@ fn ask(s: &[u8], costs: &mut [f64; 4096]) -> Asked
 
 // Reads the request of a line.
 pub fn read_request(s: &[u8]) -> Reading
-    ensures { λ r. ⌜ r ≡ readingOf (requestOf (now (s .entry))) ⌝ }
+    ensures { λ r. ⌜ ReadingAnswer (requestOf (now (s .entry))) r ⌝ }
 {
     let mut costs = [0.0f64; 4096];
     let asked = ask(s, &mut costs);

@@ -1,11 +1,11 @@
 -- The form reader and the list reader meet their contracts, shown together. What falls from call to call is the depth, doubled, a list counting one more than a
 -- form; so calls nest no deeper than brackets may. Within one list the loop takes form after form: what is listed from `i` on stays what is listed from `at` on.
 use borrow.Author.Needs.{needs}
-use mathlib.Core.Path.{_≡_, refl, sym, _∙_}
+use mathlib.Core.Path.{_≡_, refl, sym, ap, _∙_}
 use Prim.Native.Nat.{ℕ, _<_, _+_, _-_}
 use native.Mathlib.Omega.{arith}
 use lib.ListN.{length, drop}
-use Rattle.forms.specs.Shape.{listOf}
+use Rattle.forms.specs.Shape.{listOf, replyOfRead}
 use Rattle.forms.proofs.Shapes as facts
 use borrow.Fn.Kinds.{In}
 use borrow.Fn.PlainCycle.{Measures, is, falls, and}
@@ -53,7 +53,7 @@ found :
 found t c =
     let turn = c .before .before .before in
     let start = turn .before .before in
-    facts.read-next (start .args .s .now) (turn .loop .i) (start .args .depth) (c .e .given .0 .0) (sym (c .e .given .1) ∙ c .before .before .form .ensures)
+    facts.read-next (start .args .s .now) (turn .loop .i) (start .args .depth) (c .e .given .0 .0) (sym (ap replyOfRead (c .e .given .1)) ∙ c .before .before .form .ensures)
 
 pub +form+list-spec : {M : Type 1} → statement M
 +form+list-spec = close μ-form μ-list
@@ -112,7 +112,7 @@ pub +form+list-spec : {M : Type 1} → statement M
     let turn = read .before in
     let start = turn .before .before in
     facts.list-refused (start .args .s .now) (turn .loop .i) (start .args .depth)
-    (facts.read-refused (start .args .s .now) (turn .loop .i) (start .args .depth) (sym (c .enum-told .given .1) ∙ read .form .ensures))
+    (facts.read-refused (start .args .s .now) (turn .loop .i) (start .args .depth) (sym (ap replyOfRead (c .enum-told .given .1)) ∙ read .form .ensures))
     ∙ facts.listed-on (start .args .s .now) (turn .loop .inv))
     (λ c. search needs)
     -- a form and the line's end

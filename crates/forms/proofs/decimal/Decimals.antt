@@ -10,9 +10,8 @@ use borrow.Author.Tests.{eq-eqb, ne-eqb, le-leb, lt-leb}
 use lib.Dec.{eqb, leb}
 use lib.ListN.{length, take, drop, getD, length-drop, drop-of-length-le}
 use lib.Seq.{drop-cons, take-all}
-use Rattle.forms.specs.Decimal.{digit, valueOf, limited, naturalOf, minus, plus, decimalOf, countOf, answerOf}
-use Rattle.forms.specs.declared.decimal.Natural.the-variants.{Count, NoCount}
-use Rattle.forms.specs.declared.decimal.Decimal.the-variants.{Plus, Minus, NoValue}
+use Rattle.number.specs.Reply.{refused, given}
+use Rattle.forms.specs.Decimal.{digit, valueOf, limited, naturalOf, minus, plus, decimalOf, naturalReply, decimalReply}
 
 -- a value that is over the limit stays over it
 over : (l : List ℕ) (v : ℕ) → 1000000 < v → limited (valueOf v l) ≡ none
@@ -72,16 +71,16 @@ many-of (b ∷ []) f g e = absurd (g refl)
 many-of (b ∷ c ∷ l) f g e = rw (ne-eqb b 48 e)
 
 -- ---- what an answer says
-pub counts : (o : Option ℕ) (n : ℕ) → Count n ≡ countOf o → o ≡ some n
+pub counts : (o : Option ℕ) (n : ℕ) → given n ≡ naturalReply o → o ≡ some n
 counts none n h = absurd (let z : _≡_ {A = ℕ} 0 1 = cc in omega arith)
 counts (some m) n h = cc
 
-pub counts-none : (o : Option ℕ) → NoCount ≡ countOf o → o ≡ none
+pub counts-none : (o : Option ℕ) → refused 13 ≡ naturalReply o → o ≡ none
 counts-none none h = refl
 counts-none (some m) h = absurd (let z : _≡_ {A = ℕ} 0 1 = cc in omega arith)
 
 -- ---- a sign
-pub empty : (w : List ℕ) → length w ≡ 0 → NoValue ≡ answerOf (decimalOf w)
+pub empty : (w : List ℕ) → length w ≡ 0 → refused 13 ≡ decimalReply (decimalOf w)
 unfolding decimalOf
 empty [] h = refl
 empty (b ∷ l) h = absurd (omega arith)
@@ -96,24 +95,24 @@ unfolding decimalOf
 unsigned [] f e = absurd (f refl)
 unsigned (b ∷ l) f e = rw (ne-eqb b 45 e)
 
-pub minus-some : (o : Option ℕ) (n : ℕ) → (n ≡ 0 → ⊥) → o ≡ some n → Minus n ≡ answerOf (minus o)
+pub minus-some : (o : Option ℕ) (n : ℕ) → (n ≡ 0 → ⊥) → o ≡ some n → given (true, n) ≡ decimalReply (minus o)
 unfolding minus
 minus-some o zero f e = absurd (f refl)
 minus-some o (suc n) f e = rw e
 
-pub minus-zero : (o : Option ℕ) (n : ℕ) → n ≡ 0 → o ≡ some n → NoValue ≡ answerOf (minus o)
+pub minus-zero : (o : Option ℕ) (n : ℕ) → n ≡ 0 → o ≡ some n → refused 13 ≡ decimalReply (minus o)
 unfolding minus
 minus-zero o n z e = rw (e, z)
 
-pub minus-none : (o : Option ℕ) → o ≡ none → NoValue ≡ answerOf (minus o)
+pub minus-none : (o : Option ℕ) → o ≡ none → refused 13 ≡ decimalReply (minus o)
 unfolding minus
 minus-none o e = rw e
 
-pub plus-some : (o : Option ℕ) (n : ℕ) → o ≡ some n → Plus n ≡ answerOf (plus o)
+pub plus-some : (o : Option ℕ) (n : ℕ) → o ≡ some n → given (false, n) ≡ decimalReply (plus o)
 unfolding plus
 plus-some o n e = rw e
 
-pub plus-none : (o : Option ℕ) → o ≡ none → NoValue ≡ answerOf (plus o)
+pub plus-none : (o : Option ℕ) → o ≡ none → refused 13 ≡ decimalReply (plus o)
 unfolding plus
 plus-none o e = rw e
 

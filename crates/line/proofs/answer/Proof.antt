@@ -17,7 +17,13 @@ same-length : tie.Need-same-length
 same-length c = search needs
 
 returns : tie.Need-returns
-returns c = wrote-in _ (not-formed (c .before .before .before .before .before .before .before .before .args .input .now) (sym (c .before .before .before .before .before .is-formed .ensures) ∙ not-true _ (c .before .before .before .before .if1 .taken))) (c .before .before .write-refusal .ensures)
+returns c =
+    let at-write-refusal = c .before .before in
+    let at-if1 = at-write-refusal .before .before in
+    let at-is-formed = at-if1 .before in
+    let start = at-is-formed .before .before .before in
+    let input = start .args .input .now in
+    wrote-in _ (not-formed input (sym (at-is-formed .is-formed .ensures) ∙ not-true _ (at-if1 .if1 .taken))) (at-write-refusal .write-refusal .ensures)
 
 decide-requires : tie.Need-decide-requires
 decide-requires c κs = search needs
@@ -26,7 +32,13 @@ same-length-2 : tie.Need-same-length-2
 same-length-2 c = search needs
 
 returns-2 : tie.Need-returns-2
-returns-2 c = wrote-in _ (by-request (c .before .before .before .before .before .before .before .before .args .input .now) (sym (c .before .before .before .before .before .is-formed .ensures) ∙ not-false _ (c .before .before .before .before .if1 .left))) (c .before .before .decide .ensures)
+returns-2 c =
+    let at-decide = c .before .before in
+    let at-if1 = at-decide .before .before in
+    let at-is-formed = at-if1 .before in
+    let start = at-is-formed .before .before .before in
+    let input = start .args .input .now in
+    wrote-in _ (by-request input (sym (at-is-formed .is-formed .ensures) ∙ not-false _ (at-if1 .if1 .left))) (at-decide .decide .ensures)
 
 pub answer-spec : {M : Type 1} → statement M
 answer-spec = tie.close (tie.spec is-formed-requires write-refusal-requires same-length returns decide-requires same-length-2 returns-2)

@@ -1,5 +1,6 @@
 use borrow.Author.Needs.{needs}
-use mathlib.Core.Path.{sym, _∙_}
+use mathlib.Core.Path.{sym, ap, _∙_}
+use Rattle.forms.specs.Decimal.{replyOfDecimal}
 use Rattle.request.proofs.Numbers.{argument-ends, argument-other, argument-none, argument-plus, argument-minus, no-value, plus-value, minus-value}
 use Rattle.request.proofs.words.argument.Statement.{statement}
 use Rattle.request.proofs.words.argument.Tie as tie
@@ -60,7 +61,7 @@ returns-3 c =
     let start = at-past-word .before .before in
     let s = start .args .s .now in
     let at = start .args .at in
-    argument-none s at (at-past-word .past-word .result) (start .pre) (at-past-word .past-word .ensures) (no-value _ (sym (c .enum-told .given .1) ∙ at-number .number .ensures))
+    argument-none s at (at-past-word .past-word .result) (start .pre) (at-past-word .past-word .ensures) (no-value _ (sym (ap replyOfDecimal (c .enum-told .given .1)) ∙ at-number .number .ensures))
 
 returns-4 : tie.Need-returns-4
 returns-4 c =
@@ -71,7 +72,7 @@ returns-4 c =
     let start = at-past-word .before .before in
     let s = start .args .s .now in
     let at = start .args .at in
-    argument-plus s at (at-past-word .past-word .result) (start .pre) (at-past-word .past-word .ensures) (search needs) (at-if2 .if2 .left) (at-n .n .given .0 .0) (plus-value _ _ (sym (at-n .n .given .1) ∙ at-number .number .ensures))
+    argument-plus s at (at-past-word .past-word .result) (start .pre) (at-past-word .past-word .ensures) (search needs) (at-if2 .if2 .left) (at-n .n .given .0 .0) (plus-value _ _ (sym (ap replyOfDecimal (at-n .n .given .1)) ∙ at-number .number .ensures))
 
 returns-5 : tie.Need-returns-5
 returns-5 c =
@@ -82,7 +83,7 @@ returns-5 c =
     let start = at-past-word .before .before in
     let s = start .args .s .now in
     let at = start .args .at in
-    argument-minus s at (at-past-word .past-word .result) (start .pre) (at-past-word .past-word .ensures) (search needs) (at-if2 .if2 .left) (at-n2 .n2 .given .0 .0) (minus-value _ _ (sym (at-n2 .n2 .given .1) ∙ at-number .number .ensures))
+    argument-minus s at (at-past-word .past-word .result) (start .pre) (at-past-word .past-word .ensures) (search needs) (at-if2 .if2 .left) (at-n2 .n2 .given .0 .0) (minus-value _ _ (sym (ap replyOfDecimal (at-n2 .n2 .given .1)) ∙ at-number .number .ensures))
 
 pub argument-spec : {M : Type 1} → statement M
 argument-spec = tie.close (tie.spec past-word-requires returns shared-slice-read-if2 returns-2 sub-number part-number-start part-number-end number-requires enum-told enum-known-n add-t15 enum-known-n-2 add-t16 returns-3 returns-4 returns-5)

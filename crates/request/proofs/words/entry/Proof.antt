@@ -3,6 +3,7 @@ use mathlib.Core.Path.{ap, sym, _∙_}
 use lib.Ieee.{Float, nanBits}
 use Rattle.request.specs.declared.words.Item.the-variants.{Cost}
 use native.Mathlib.Omega.{arith}
+use Rattle.forms.specs.Decimal.{replyOfDecimal}
 use Rattle.request.proofs.Numbers.{infinite, inside-line, entry-dash, entry-none, entry-plus, entry-minus, no-value, plus-value, minus-value}
 use Rattle.request.proofs.words.entry.Statement.{statement}
 use Rattle.request.proofs.words.entry.Tie as tie
@@ -80,7 +81,7 @@ returns-2 c =
     let start = at-past-word .before .before in
     let s = start .args .s .now in
     let at = start .args .at in
-    entry-none s at (at-past-word .past-word .result) (start .pre) (at-past-word .past-word .ensures) (sym (at-is-dash .is-dash .ensures) ∙ at-if1 .if1 .left) (no-value _ (sym (c .enum-told .given .1) ∙ at-number .number .ensures))
+    entry-none s at (at-past-word .past-word .result) (start .pre) (at-past-word .past-word .ensures) (sym (at-is-dash .is-dash .ensures) ∙ at-if1 .if1 .left) (no-value _ (sym (ap replyOfDecimal (c .enum-told .given .1)) ∙ at-number .number .ensures))
 
 returns-3 : tie.Need-returns-3
 returns-3 c =
@@ -92,7 +93,7 @@ returns-3 c =
     let start = at-past-word .before .before in
     let s = start .args .s .now in
     let at = start .args .at in
-    entry-plus s at (at-past-word .past-word .result) (start .pre) (at-past-word .past-word .ensures) (sym (at-is-dash .is-dash .ensures) ∙ at-if1 .if1 .left) (at-n .n .given .0 .0) (plus-value _ _ (sym (at-n .n .given .1) ∙ at-number .number .ensures))
+    entry-plus s at (at-past-word .past-word .result) (start .pre) (at-past-word .past-word .ensures) (sym (at-is-dash .is-dash .ensures) ∙ at-if1 .if1 .left) (at-n .n .given .0 .0) (plus-value _ _ (sym (ap replyOfDecimal (at-n .n .given .1)) ∙ at-number .number .ensures))
 
 returns-4 : tie.Need-returns-4
 returns-4 c =
@@ -104,7 +105,7 @@ returns-4 c =
     let start = at-past-word .before .before in
     let s = start .args .s .now in
     let at = start .args .at in
-    entry-minus s at (at-past-word .past-word .result) (start .pre) (at-past-word .past-word .ensures) (sym (at-is-dash .is-dash .ensures) ∙ at-if1 .if1 .left) (at-n2 .n2 .given .0 .0) (minus-value _ _ (sym (at-n2 .n2 .given .1) ∙ at-number .number .ensures))
+    entry-minus s at (at-past-word .past-word .result) (start .pre) (at-past-word .past-word .ensures) (sym (at-is-dash .is-dash .ensures) ∙ at-if1 .if1 .left) (at-n2 .n2 .given .0 .0) (minus-value _ _ (sym (ap replyOfDecimal (at-n2 .n2 .given .1)) ∙ at-number .number .ensures))
 
 pub entry-spec : {M : Type 1} → statement M
 entry-spec = tie.close (tie.spec past-word-requires sub-is-dash part-is-dash-start part-is-dash-end is-dash-requires float-from-bits-t11 returns sub-number part-number-start part-number-end number-requires enum-told enum-known-n int-to-float-t17 enum-known-n-2 int-to-float-t18 returns-2 returns-3 returns-4)
