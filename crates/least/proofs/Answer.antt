@@ -24,6 +24,7 @@ use Rattle.lists.specs.Masks.{upFrom}
 use Rattle.kuhn_munkres.specs.Groups.{labels}
 use Rattle.kuhn_munkres.specs.Assignment.{rowsOf, solved, squareOf, largestOf, sentinelOf, groups, pairing, takersReply, pairsOf, assignmentReply}
 use Rattle.kuhn_munkres.proofs.Rows.{rows-count, rows-at}
+use Rattle.potentials.specs.Square.{largest, WholeSquare}
 use Rattle.potentials.proofs.Square.{square-least}
 use Rattle.groups.specs.Solvers.{Solves}
 use Rattle.groups.proofs.Composed.{groups-least}
@@ -33,13 +34,13 @@ use Rattle.least.proofs.Padding.{padded, taker, padded-least}
 use Rattle.least.proofs.Lists.{least-pairs}
 use Rattle.least.proofs.Dense.{entry-is, own, own-long, own-at, solved-is, least-alike}
 
-module _ (far rowCost columnCost : Float) (farZ row column : Integer) (far-is : WholeValue far farZ) (far-low : natural 1_000_000_000 ≤Z farZ) (far-high : Within (2 ^ 48) farZ)
+module _ (far rowCost columnCost : Float) (farZ row column : Integer) (far-is : WholeValue far farZ) (far-low : natural 1_000_000_000 ≤Z farZ) (far-high : Within largest farZ)
     (row-is : WholeValue rowCost row × Within 1_000_000 row) (column-is : WholeValue columnCost column × Within 1_000_000 column) where
-  within : (b : Bool) (d e : Integer) → (b ≡ true → Within (2 ^ 48) d) → (b ≡ false → Within (2 ^ 48) e) → Within (2 ^ 48) (cond b d e)
+  within : (b : Bool) (d e : Integer) → (b ≡ true → Within largest d) → (b ≡ false → Within largest e) → Within largest (cond b d e)
   within true d e p q = p refl
   within false d e p q = q refl
 
-  wider : (d : Integer) → Within 1_000_000 d → Within (2 ^ 48) d
+  wider : (d : Integer) → Within 1_000_000 d → Within largest d
   wider d w = (omega arith, omega arith)
 
   solves : Solves (λ table. solved float (squareOf far rowCost columnCost table)) row column
@@ -49,18 +50,22 @@ module _ (far rowCost columnCost : Float) (farZ row column : Integer) (far-is : 
       let q : Square Float = squareOf far rowCost columnCost T in
       let value : (i j : ℕ) → i < r → j < c → finite (getD (getD T i []) j nan) ≡ true → WholeValue (getD (getD T i []) j nan) (cost i j) = λ i j h l e. costs-are i j h l e .0 in
       let few : r + c < 129 = omega arith in
-      let x = square-least (r + c) few (entry float q) A (λ i j h l. entry-is T r c long wide z far rowCost columnCost cost farZ row column value far-is (row-is .0) (column-is .0) i j) (λ i j h l. bound i j) in
-      let s = x .0 in
-      let p = x .1 in
-      let at = x .3 .at in (
-        own T r c long wide z far rowCost columnCost cost farZ row column value far-is (row-is .0) (column-is .0) s p few (x .2) at,
-        solved-is T r c long wide z far rowCost columnCost cost farZ row column value far-is (row-is .0) (column-is .0) s p few (x .2) at,
-        own-long T r c long wide z far rowCost columnCost cost farZ row column value far-is (row-is .0) (column-is .0) s p few (x .2) at,
-        least-alike allowed cost row column r c (taker r p) _ (own-at T r c long wide z far rowCost columnCost cost farZ row column value far-is (row-is .0) (column-is .0) s p few (x .2) at)
-            (padded-least r c allowed cost row column farZ hr hc (λ i j h l e. costs-are i j h l e .1) (row-is .1) (column-is .1) far-low p (x .3 .inj) (x .3 .least)),
+      let w : WholeSquare (r + c) (entry float q) A = record {
+        value = λ i j h l. entry-is T r c long wide z far rowCost columnCost cost farZ row column value far-is (row-is .0) (column-is .0) i j;
+        small = λ i j h l. bound i j;
+      } in
+      let x = square-least (r + c) few (entry float q) A w in
+      let s = x .last in
+      let p = x .row in
+      let at = x .at in (
+        own T r c long wide z far rowCost columnCost cost farZ row column value far-is (row-is .0) (column-is .0) s p few (x .ends) at,
+        solved-is T r c long wide z far rowCost columnCost cost farZ row column value far-is (row-is .0) (column-is .0) s p few (x .ends) at,
+        own-long T r c long wide z far rowCost columnCost cost farZ row column value far-is (row-is .0) (column-is .0) s p few (x .ends) at,
+        least-alike allowed cost row column r c (taker r p) _ (own-at T r c long wide z far rowCost columnCost cost farZ row column value far-is (row-is .0) (column-is .0) s p few (x .ends) at)
+            (padded-least r c allowed cost row column farZ hr hc (λ i j h l e. costs-are i j h l e .1) (row-is .1) (column-is .1) far-low p (x .inj) (x .least)),
       )
     where
-      bound : (i j : ℕ) → Within (2 ^ 48) (padded r c (λ i j. finite (getD (getD T i []) j nan)) cost row column farZ i j)
+      bound : (i j : ℕ) → Within largest (padded r c (λ i j. finite (getD (getD T i []) j nan)) cost row column farZ i j)
       bound i j =
           within (ltb i r) _ _
           (λ e. within (ltb j c) _ _ (λ f. within (finite (getD (getD T i []) j nan)) (cost i j) farZ (λ g. wider (cost i j) (costs-are i j (ltb-true i r e) (ltb-true j c f) g .1)) (λ g. far-high)) (λ f. within (eqb j (c + i)) row farZ (λ g. wider row (row-is .1)) (λ g. far-high)))
@@ -98,7 +103,7 @@ module _ (costs : List Float) (n m : ℕ) (rowCost columnCost : Float) (cost : �
   abbrev far : Float
   far = sentinelOf (largestOf (largerOf rowCost columnCost) R)
 
-  abbrev F : (f : Integer) × WholeValue far f × (natural 1_000_000_000 ≤Z f) × Within (2 ^ 48) f
+  abbrev F : (f : Integer) × WholeValue far f × (natural 1_000_000_000 ≤Z f) × Within largest f
   F = sentinel-whole (largestOf (largerOf rowCost columnCost) R) top-ranged
 
   takers : (t : List (Option ℕ)) × (groups (λ table. solved float (squareOf far rowCost columnCost table)) R (labels finite R m) (upFrom zero R) (replicate m none) ≡ given t) × (length t ≡ m)

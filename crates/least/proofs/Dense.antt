@@ -18,7 +18,7 @@ use Rattle.number.specs.Reply.{Reply, refused, given}
 use Rattle.whole.specs.Integer.{Integer, 0Z, natural, _≤Z_, Within, sum}
 use Rattle.whole.specs.Whole.{WholeValue}
 use Rattle.whole.specs.Takers.{weightOf, weight, Takes, LeastTakes}
-use Rattle.whole.proofs.OneOne.{Inj}
+use Rattle.whole.specs.OneOne.{Inj}
 use Rattle.kuhn_munkres.specs.Binary64.{float}
 use Rattle.kuhn_munkres.specs.Square.{Square, entry}
 use Rattle.kuhn_munkres.specs.Steps.{State, Search, found, stopped, spent, rows}

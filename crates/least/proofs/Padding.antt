@@ -11,7 +11,8 @@ use borrow.Author.Tests.{eq-eqb, ne-eqb, lt-ltb, le-ltb}
 use lib.Dec.{eqb, ltb}
 use Rattle.whole.specs.Integer.{Integer, 0Z, natural, _+Z_, _≤Z_, _≈_, Within, sum, times}
 use Rattle.whole.specs.Takers.{weightOf, weight, Takes, LeastTakes}
-use Rattle.whole.proofs.OneOne.{Inj, Hit, hit?, sum-same, sum-add, sum-front, sum-perm}
+use Rattle.whole.specs.OneOne.{Inj}
+use Rattle.whole.proofs.OneOne.{Hit, hit?, sum-same, sum-add, sum-front, sum-perm}
 use Rattle.kuhn_munkres.specs.Assignment.{takerOf}
 use Rattle.kuhn_munkres.proofs.Labels.{none-some, some-same}
 use Rattle.kuhn_munkres.proofs.Columns.{taker-is}

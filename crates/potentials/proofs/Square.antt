@@ -6,19 +6,15 @@ use lib.ListN.{getD}
 use lib.Ieee.{Float}
 use Rattle.whole.specs.Integer.{Integer, _+Z_, _≤Z_, _≈_, Within, sum}
 use Rattle.whole.specs.Whole.{WholeValue}
-use Rattle.whole.proofs.OneOne.{Inj, Hit, onto}
+use Rattle.whole.specs.OneOne.{Inj}
+use Rattle.whole.proofs.OneOne.{Hit, onto}
 use Rattle.whole.proofs.OneOne
 use Rattle.kuhn_munkres.specs.Binary64.{float}
 use Rattle.kuhn_munkres.specs.Steps.{State, found, rows}
+use Rattle.potentials.specs.Square.{largest, WholeSquare, LeastSquare}
 use Rattle.potentials.proofs.Free.{free-none}
 use Rattle.potentials.proofs.Numbers.{Entries, uOf, vOf, pOf}
 use Rattle.potentials.proofs.Rows.{Dual, rows-dual}
-
--- s gives column j the row p j, both counted from 0, and no other one to one choice of a row for each column has a smaller total
-pub record LeastSquare (n : ℕ) (A : ℕ → ℕ → Integer) (s : State Float) (p : ℕ → ℕ) : Type 0 where
-  pub at : (j : ℕ) → j < n → getD (s .p) (suc j) 0 ≡ suc (p j)
-  pub inj : Inj n p
-  pub least : (q : ℕ → ℕ) → Inj n q → sum (λ j. A (p j) j) n ≤Z sum (λ j. A (q j) j) n
 
 -- the number before
 abbrev before : ℕ → ℕ
@@ -81,21 +77,18 @@ module _ (n B : ℕ) (a : ℕ → ℕ → Float) (A : ℕ → ℕ → Integer) (
   tight : (j : ℕ) → j < n → A (rowOf j) j ≈ u (rowOf j) +Z v j
   tight j h = subst (λ (r : ℕ). A (before r) j ≈ uOf s r +Z v j) (row-at j h) (D .tight (suc j) (omega arith) (omega arith) (has j h))
 
-  least-square : LeastSquare n A s rowOf
-  least-square = record { at = row-at; inj = rows-inj; least = λ q I. OneOne.least n A u v rowOf q rows-inj I fine tight }
+  least-square : rows float a n n ≡ found s → LeastSquare n a A
+  least-square e = record { last = s; row = rowOf; ends = e; at = row-at; inj = rows-inj; least = λ q I. OneOne.least n A u v rowOf q rows-inj I fine tight }
 
--- a gives the entries as doubles, rows and columns counted from 1; A gives their integers, counted from 0
-pub square-least : (n : ℕ) → n < 129 → (a : ℕ → ℕ → Float) (A : ℕ → ℕ → Integer)
-    → ((i j : ℕ) → i < n → j < n → WholeValue (a (suc i) (suc j)) (A i j)) → ((i j : ℕ) → i < n → j < n → Within (2 ^ 48) (A i j))
-    → (s : State Float) × (p : ℕ → ℕ) × (rows float a n n ≡ found s) × LeastSquare n A s p
-square-least n fits a A value small = go (rows-dual n (2 ^ 48) a (from1 A) fits entries n (omega arith))
+pub square-least : (n : ℕ) → n < 129 → (a : ℕ → ℕ → Float) (A : ℕ → ℕ → Integer) → WholeSquare n a A → LeastSquare n a A
+square-least n fits a A w = go (rows-dual n largest a (from1 A) fits entries n (omega arith))
   where
-    entries : Entries n (2 ^ 48) a (from1 A)
+    entries : Entries n largest a (from1 A)
     entries = record {
       exact = omega arith;
-      value = counted n (λ i j. WholeValue (a i j) (from1 A i j)) value;
-      small = counted n (λ i j. Within (2 ^ 48) (from1 A i j)) small;
+      value = counted n (λ i j. WholeValue (a i j) (from1 A i j)) (w .value);
+      small = counted n (λ i j. Within largest (from1 A i j)) (w .small);
     }
 
-    go : (s : State Float) × (rows float a n n ≡ found s) × Dual n (2 ^ 48) a (from1 A) n s → (s : State Float) × (p : ℕ → ℕ) × (rows float a n n ≡ found s) × LeastSquare n A s p
-    go x = (x .0, rowOf n (2 ^ 48) a A (x .0) (x .2), x .1, least-square n (2 ^ 48) a A (x .0) (x .2))
+    go : (s : State Float) × (rows float a n n ≡ found s) × Dual n largest a (from1 A) n s → LeastSquare n a A
+    go x = least-square n largest a A (x .0) (x .2) (x .1)

@@ -9,11 +9,8 @@ use borrow.Author.Tests.{eq-eqb, ne-eqb}
 use lib.Dec.{eqb}
 use native.Mathlib.Decide.{ℕ-discrete}
 use native.Mathlib.Omega.{arith}
+use Rattle.whole.specs.OneOne.{Inj}
 use Rattle.whole.specs.Integer.{Integer, _+Z_, _-Z_, _≤Z_, _≈_, 0Z, sum}
-
-pub record Inj (n : ℕ) (q : ℕ → ℕ) : Type 0 where
-  pub in-range : (j : ℕ) → j < n → q j < n
-  pub one-one : (j k : ℕ) → j < n → k < n → q j ≡ q k → j ≡ k
 
 -- is there a j below n with q j = i?
 abbrev pub Hit : (ℕ → ℕ) → ℕ → ℕ → Type 0

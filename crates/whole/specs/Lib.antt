@@ -1,3 +1,4 @@
 pub mod Integer
 pub mod Whole
 pub mod Takers
+pub mod OneOne
