@@ -220,7 +220,7 @@ fn relax_row(
     }
 }
 
-// Marks column j0, scans its row.
+// Sets row i0 against what the columns have had so far, and picks the least of them.
 fn look(
     costs: &[f64],
     q: Shape,

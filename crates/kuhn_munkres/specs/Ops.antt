@@ -1,5 +1,5 @@
--- The operations that the steps of the assignment use, over any type of numbers: at binary64 the steps are what the code does bit for bit, at whole
--- numbers they are what is proved least.
+-- The operations that the steps of the assignment use, over any type of numbers: at binary64 the steps are what the code does bit for bit, and where its
+-- numbers are whole what is proved least.
 use mathlib.Core.Bool.{Bool}
 
 -- `top` is above every cost, and `out` is what a place beyond a list reads as: no step looks at it.
