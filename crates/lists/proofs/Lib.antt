@@ -1,4 +1,5 @@
 pub mod Laying
+pub mod Filling
 pub mod Firsts
 pub mod Sifting
 pub mod Loops

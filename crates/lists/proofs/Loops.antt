@@ -12,6 +12,7 @@ use native.Mathlib.Nat.{sub-zero, suc-sub-suc}
 use Rattle.lists.specs.Lay.{lay}
 use Rattle.lists.specs.Table.{inserted}
 use Rattle.lists.proofs.Laying.{lay-front, set-lay, getD-lay}
+use Rattle.lists.proofs.Filling.{map-append}
 use Rattle.lists.specs.Sift.{sift, kept}
 use Rattle.lists.proofs.Sifting.{sift-more, sift-take-length}
 use Rattle.lists.specs.First.{any, firstAt}
@@ -67,17 +68,13 @@ module _ {A : Type 0} (f : A → A) where
   mapped-length : (l : List A) (i : ℕ) → i ≤ length l → length (map f (take i l)) ≡ i
   mapped-length l i h = length-map (take i l) f ∙ length-take-le i l h
 
-  map-append : (l m : List A) → map f (l ++ m) ≡ map f l ++ map f m
-  map-append [] m = refl
-  map-append (x ∷ l) m = ap (λ (q : List A). f x ∷ q) (map-append l m)
-
   pub mapped-more : (l m : List A) (i : ℕ) (d : A) → Mapped f l m i → i < length l → Mapped f l (set m i (f (getD m i d))) (i + 1)
   mapped-more l m i d s h =
       let k : length (map f (take i l)) ≡ i = mapped-length l i (s .read) in
       let e : getD m i d ≡ getD l i d =
       ap (λ (q : List A). getD q i d) (s .slots) ∙ getD-lay (map f (take i l)) l i d (omega arith) in
       let more : map f (take (i + 1) l) ≡ map f (take i l) ++ (f (getD l i d) ∷ []) =
-      ap (λ (n : ℕ). map f (take n l)) (add-one i) ∙ ap (map f) (take-suc l i d h) ∙ map-append (take i l) (getD l i d ∷ []) in
+      ap (λ (n : ℕ). map f (take n l)) (add-one i) ∙ ap (map f) (take-suc l i d h) ∙ map-append f (take i l) (getD l i d ∷ []) in
       record {
         read = omega arith;
         slots =

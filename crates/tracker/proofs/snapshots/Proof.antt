@@ -1,14 +1,14 @@
 -- The loop keeps `Shown`: the snapshots of the tracks before i stand in front of the blanks.
 use mathlib.Core.Path.{_≡_, ap, _∙_}
-use Prim.Native.Nat.{_≤_, _-_}
-use lib.ListN.{length, length-set, replicate}
+use Prim.Native.Nat.{_≤_, _<_, _-_}
+use lib.ListN.{length, length-set}
 use native.Mathlib.Omega.{arith}
 use borrow.Author.Needs.{needs}
 use Rattle.lists.proofs.Laying.{length-mapped}
+use Rattle.lists.proofs.Filling.{filled-start, filled-more}
 use Rattle.tables.proofs.Stores.{noTrack}
-use Rattle.types.specs.declared.track.Track3DSnapshot.{Track3DSnapshot}
 use Rattle.types.specs.Track.{snapshotOf}
-use Rattle.tracker.proofs.Showing.{Shown, shown-start, shown-more, shown-end}
+use Rattle.tracker.proofs.Showing.{blanks, Shown, shown-end}
 use Rattle.tracker.proofs.snapshots.Statement.{statement}
 use Rattle.tracker.proofs.snapshots.Tie as tie
 
@@ -26,7 +26,7 @@ loop-holds c =
       omega (arith, b .before .taken .ensures),
       search (needs, length-mapped),
       search needs,
-      ap (λ (x : Track3DSnapshot). replicate 64 x) blank ∙ shown-start (b .before .before .args .t1 .tracks),
+      rw blank (filled-start snapshotOf (b .before .before .args .t1 .tracks) blanks),
     )
 
 loop-again : tie.Need-loop-again Inv-loop μ-loop
@@ -37,7 +37,9 @@ loop-again c =
       v .1,
       v .2,
       length-set (l .loop .items) (l .loop .i) _ ∙ v .3,
-      (let g = shown-more (l .before .before .before .before .args .t1 .tracks) (l .loop .items) (l .loop .i) noTrack (v .4) (omega (arith, v .1, v .2)) (omega (arith, v .1)) in rw (c .snapshot-of2 .ensures) g),
+      (let w : l .loop .i < 64 = omega (arith, v .1) in
+          let g = filled-more snapshotOf (l .before .before .before .before .args .t1 .tracks) blanks (l .loop .items) (l .loop .i) noTrack (v .4) (omega (arith, v .1, v .2)) w in
+          rw (c .snapshot-of2 .ensures) g),
     )
 
 returns : tie.Need-returns Inv-loop μ-loop
