@@ -11,6 +11,7 @@ ghost use Rattle.filter.specs.Kalman.{estimate, finished, moved, innovat
 ghost use Rattle.filter.specs.Filter.{filterWith, estimateOf, stored, created, predicted, updatedByPosition, updatedByVelocity, updatedByCheckedVelocity, squaredMahalanobis, expectedOf, distanceFrom, updatedFrom, Answer};
 
 // A state of position and velocity, and its covariance, row after row.
+#[repr(C)]
 pub struct KalmanFilter {
     pub state: [f64; 6],
     pub covariance: [f64; 36],

@@ -27,6 +27,7 @@ pub struct TrackLifecycle {
 }
 
 // What of the tracker's settings a life depends on.
+#[repr(C)]
 pub struct LifecycleConfig {
     pub confirm_min_observation_times: u32,
     pub tentative_timeout_ns: i64,

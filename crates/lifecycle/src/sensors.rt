@@ -7,6 +7,7 @@ ghost use Rattle.lists.specs.First.{any};
 ghost use Rattle.lists.specs.Lay.{lay};
 ghost use Rattle.lifecycle.specs.Sensors.{is, boundOf, sensorsOf, over, recordedOf};
 
+#[repr(C)]
 pub struct Sensors {
     pub ids: [u32; 16],
     pub count: usize,

@@ -5,6 +5,7 @@ ghost use lib.ListN.{take};
 ghost use Rattle.lists.specs.Same.{same};
 ghost use Rattle.settings.specs.Frame.{tooLong, sameFrame};
 
+#[repr(C)]
 pub struct FrameName {
     pub bytes: [u8; 32],
     pub length: usize,

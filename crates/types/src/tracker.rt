@@ -12,6 +12,7 @@ use lifecycle::sensors::Sensors;
 use settings::Cartesian3DTrackerConfig;
 
 // A detection too near a confirmed track, which may turn out to be a neighbour.
+#[repr(C)]
 pub struct BirthCandidate {
     pub position: [f64; 3],
     pub last_seen: i64,
@@ -19,6 +20,7 @@ pub struct BirthCandidate {
 }
 
 // The sequence number of a sensor's latest batch.
+#[repr(C)]
 pub struct SensorSequence {
     pub sensor: u32,
     pub sequence: u64,

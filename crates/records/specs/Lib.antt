@@ -1,0 +1,4 @@
+pub mod Layout
+pub mod Tracks
+pub mod Configs
+pub mod Trackers
