@@ -1,3 +1,4 @@
 pub mod Walks
 mod Told
 pub mod Mated
+pub mod Lent
