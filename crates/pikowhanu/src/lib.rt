@@ -1,4 +1,3 @@
 // The library for C and Rust programs: what include/pikowhanu.h declares. Each call answers 0, or 01's number of the refusal and leaves what it was lent untouched.
-mod mates;
-mod root;
+mod solving;
 mod tracking;

@@ -1,9 +1,8 @@
 // The square root for C programs.
-ghost use Rattle.pikowhanu.specs.Boundary.{RootCall};
+ghost use Rattle.c_solvers.specs.Boundary.{RootCall};
 
 // The square root of x into out.
-#[no_mangle]
-pub extern "C" fn pk_root(x: f64, out: &mut f64) -> u32
+pub fn square_root(x: f64, out: &mut f64) -> u32
     ensures { λ r. ⌜ RootCall x r (now (out .entry)) (now (out .exit)) ⌝ }
 {
     match square_root::root(x) {

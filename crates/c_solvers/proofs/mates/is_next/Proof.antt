@@ -1,8 +1,8 @@
 use borrow.Author.Needs.{needs}
 use mathlib.Core.Path.{_≡_, refl}
 use borrow.Author.Tests.{lt-ltb, le-ltb}
-use Rattle.pikowhanu.proofs.mates.is_next.Statement.{statement}
-use Rattle.pikowhanu.proofs.mates.is_next.Tie as tie
+use Rattle.c_solvers.proofs.mates.is_next.Statement.{statement}
+use Rattle.c_solvers.proofs.mates.is_next.Tie as tie
 
 returns : tie.Need-returns
 returns c = rw (lt-ltb (c .before .before .args .k) (c .before .before .args .count) (c .before .if1 .taken))

@@ -16,7 +16,7 @@ use Rattle.lists.proofs.Laying.{set-lay, length-lay}
 use Rattle.kuhn_munkres.specs.Assignment.{Pair, columnOf, pairAt, pairsFrom}
 use Rattle.kuhn_munkres.proofs.Labels.{map-at}
 use Rattle.assignment.specs.Listing.{padded, rowOf, columnIn, pairOf}
-use Rattle.pikowhanu.specs.Mates.{alone, mateOf, matesOf, hits, PairsHeld, MatesWritten}
+use Rattle.c_solvers.specs.Mates.{alone, mateOf, matesOf, hits, PairsHeld, MatesWritten}
 
 -- ---- mates
 pub length-mates : (l : List Pair) (n : ℕ) → length (matesOf l n) ≡ n

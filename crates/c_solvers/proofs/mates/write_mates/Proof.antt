@@ -5,10 +5,10 @@ use mathlib.Core.List.{List}
 use mathlib.Core.Option.{Option}
 use Prim.Native.Nat.{ℕ, _-_, _≤_, _<_}
 use lib.ListN.{length, length-set}
-use Rattle.pikowhanu.specs.Mates.{PairsHeld}
-use Rattle.pikowhanu.proofs.Walks.{Walk, walk-start, walk-hit, walk-miss, walk-end, hit-below}
-use Rattle.pikowhanu.proofs.mates.write_mates.Statement.{statement}
-use Rattle.pikowhanu.proofs.mates.write_mates.Tie as tie
+use Rattle.c_solvers.specs.Mates.{PairsHeld}
+use Rattle.c_solvers.proofs.Walks.{Walk, walk-start, walk-hit, walk-miss, walk-end, hit-below}
+use Rattle.c_solvers.proofs.mates.write_mates.Statement.{statement}
+use Rattle.c_solvers.proofs.mates.write_mates.Tie as tie
 
 abbrev Inv-loop : tie.InvT-loop
 Inv-loop pair-rows pair-columns count rows mates₀ k₀ i₀ mates k i =

@@ -7,10 +7,10 @@ use Rattle.assignment.specs.Replies.{replyOf}
 use Rattle.assignment.specs.declared.Outcome.{Outcome}
 use Rattle.assignment.specs.declared.Outcome.the-variants.{Given}
 use lib.ListN.{length}
-use Rattle.pikowhanu.specs.Mates.{AssignmentCall}
-use Rattle.pikowhanu.proofs.Mated.{Paired, paired, call-short, call-refused, call-given}
-use Rattle.pikowhanu.proofs.mates.pk_linear_assignment.Statement.{statement}
-use Rattle.pikowhanu.proofs.mates.pk_linear_assignment.Tie as tie
+use Rattle.c_solvers.specs.Mates.{AssignmentCall}
+use Rattle.c_solvers.proofs.Mated.{Paired, paired, call-short, call-refused, call-given}
+use Rattle.c_solvers.proofs.mates.linear_assignment.Statement.{statement}
+use Rattle.c_solvers.proofs.mates.linear_assignment.Tie as tie
 
 returns : tie.Need-returns
 returns c = let s = c .before .before .before in call-short (s .args .costs .now) (s .args .rows) (s .args .columns) (s .args .row-cost) (s .args .column-cost) (s .args .mates .now) (c .if1 .taken)
@@ -42,7 +42,7 @@ returns-4 c = declined (c .before .before .before) _ 9 (c .enum-told3 .given .1)
 returns-5 : tie.Need-returns-5
 returns-5 c = declined (c .before .before .before) _ 10 (c .enum-told4 .given .1) (λ p. refl)
 
-pub pk-linear-assignment-spec : {M : Type 1} → statement M
-pk-linear-assignment-spec =
+pub linear-assignment-spec : {M : Type 1} → statement M
+linear-assignment-spec =
     tie.close
     (tie.spec returns (λ c κs. search needs) (λ c. search needs) write-mates-requires (λ c. search needs) (λ c. search needs) (λ c. search needs) (λ c. search needs) returns-2 returns-3 returns-4 returns-5)

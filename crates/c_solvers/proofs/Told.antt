@@ -13,8 +13,8 @@ use lib.ListN.{length}
 use Rattle.kuhn_munkres.specs.Groups.{isLabel}
 use Rattle.kuhn_munkres.specs.Assignment.{Pair, columnOf, pairAt, pairsFrom}
 use Rattle.assignment.specs.Listing.{pairOf}
-use Rattle.pikowhanu.specs.Mates.{alone, mateOf, matesOf, pairsTold}
-use Rattle.pikowhanu.proofs.Walks.{length-mates, late}
+use Rattle.c_solvers.specs.Mates.{alone, mateOf, matesOf, pairsTold}
+use Rattle.c_solvers.proofs.Walks.{length-mates, late}
 
 -- ---- one row more
 told-last : (i : ℕ) (l : List ℕ) (c : ℕ) → pairsTold i (l ++ (c ∷ [])) ≡ pairsTold i l ++ pairsTold (i + length l) (c ∷ [])

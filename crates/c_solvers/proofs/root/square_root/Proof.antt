@@ -5,9 +5,9 @@ use lib.Ieee.{Float}
 use Rattle.number.specs.Reply.{Reply, refused, given, codeOf, leftIn}
 use Rattle.square_root.specs.Root.{NearestRoot, rootReply, replyOfRoot}
 use Rattle.square_root.proofs.Cases.{positive-given}
-use Rattle.pikowhanu.specs.Boundary.{RootCall}
-use Rattle.pikowhanu.proofs.root.pk_root.Statement.{statement}
-use Rattle.pikowhanu.proofs.root.pk_root.Tie as tie
+use Rattle.c_solvers.specs.Boundary.{RootCall}
+use Rattle.c_solvers.proofs.root.square_root.Statement.{statement}
+use Rattle.c_solvers.proofs.root.square_root.Tie as tie
 
 returns : tie.Need-returns
 returns c =
@@ -21,5 +21,5 @@ returns-2 c =
     let e : refused 9 ≡ rootReply (at .before .args .x) = ap replyOfRoot (sym (c .enum-told .given .1)) ∙ at .root .ensures .is in
     record { code = ap codeOf e; out = ap (λ (r : Reply Float). leftIn r (at .before .args .out .now)) e; nearest = λ p. absurd (positive-given _ 9 p (sym e)) }
 
-pub pk-root-spec : {M : Type 1} → statement M
-pk-root-spec = tie.close (tie.spec (λ c κs. search needs) (λ c. search needs) (λ c. search needs) returns returns-2)
+pub square-root-spec : {M : Type 1} → statement M
+square-root-spec = tie.close (tie.spec (λ c κs. search needs) (λ c. search needs) (λ c. search needs) returns returns-2)

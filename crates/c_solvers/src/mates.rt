@@ -2,7 +2,7 @@
 ghost use mathlib.Core.Path.{_≡_};
 ghost use Prim.Native.Nat.{_≤_};
 ghost use lib.ListN.{length};
-ghost use Rattle.pikowhanu.specs.Mates.{hits, MatesWritten, AssignmentCall};
+ghost use Rattle.c_solvers.specs.Mates.{hits, MatesWritten, AssignmentCall};
 
 // What stands for the column of a row that is left alone.
 const ALONE: u64 = 0xffff_ffff_ffff_ffff;
@@ -38,8 +38,7 @@ fn write_mates<'a>(
 }
 
 // The column that each row is paired with, into mates; 2^64 - 1 for a row that is left alone.
-#[no_mangle]
-pub extern "C" fn pk_linear_assignment(
+pub fn linear_assignment(
     costs: &[f64],
     rows: usize,
     columns: usize,

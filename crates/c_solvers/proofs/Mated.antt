@@ -20,9 +20,9 @@ use Rattle.assignment.specs.declared.Assignment.{Assignment}
 use Rattle.assignment.specs.declared.Assigned.{Assigned}
 use Rattle.assignment.specs.declared.Outcome.the-variants.{Given}
 use Rattle.assignment.proofs.Answers.{few, takers-few, told}
-use Rattle.pikowhanu.specs.Mates.{matesOf, matesReply, pairsTold, AssignmentCall, PairsHeld, MatesWritten}
-use Rattle.pikowhanu.proofs.Walks.{length-mates, few-pairs}
-use Rattle.pikowhanu.proofs.Told.{told-mates}
+use Rattle.c_solvers.specs.Mates.{matesOf, matesReply, pairsTold, AssignmentCall, PairsHeld, MatesWritten}
+use Rattle.c_solvers.proofs.Walks.{length-mates, few-pairs}
+use Rattle.c_solvers.proofs.Told.{told-mates}
 
 cc-pairs : (a b : Pairs) → given a ≡ given b → a .pairs ≡ b .pairs
 cc-pairs a b e = let z : a ≡ b = cc in ap (λ (x : Pairs). x .pairs) z

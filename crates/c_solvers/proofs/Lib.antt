@@ -1,0 +1,3 @@
+pub mod Walks
+mod Told
+pub mod Mated
