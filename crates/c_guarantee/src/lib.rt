@@ -1,0 +1,1 @@
+// The shopkeeper's guarantee over what a C program holds. No code.
