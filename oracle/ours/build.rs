@@ -1,10 +1,16 @@
 //! Links each archive whose feature is on: a feature has its archive's name, and ARCHIVES is the folder of them all.
 
+/// `tracker` is no archive, but says that `pikowhanu` has the tracker's calls.
+const ARCHIVES: [&str; 2] = ["pikowhanu", "probe"];
+
 fn main() {
     println!("cargo:rerun-if-env-changed=ARCHIVES");
     for (variable, _) in std::env::vars() {
         if let Some(name) = variable.strip_prefix("CARGO_FEATURE_") {
-            link(&name.to_lowercase());
+            let name = name.to_lowercase();
+            if ARCHIVES.contains(&name.as_str()) {
+                link(&name);
+            }
         }
     }
 }

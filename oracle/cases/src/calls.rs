@@ -39,6 +39,8 @@ pub enum Call {
 pub struct CallReply {
     pub answer: Answer,
     pub state: Option<TrackerState>,
+    /// Whether all that the call may not touch is as it was: after a refusal, everything.
+    pub kept: bool,
 }
 
 #[derive(Clone, Debug, PartialEq, Eq)]
@@ -55,6 +57,7 @@ impl CallReply {
         CallReply {
             answer: answer.unwrap_or_else(Answer::Refused),
             state: Some(state),
+            kept: true,
         }
     }
 }
@@ -93,6 +96,7 @@ impl Case for CallsCase {
                 return vec![CallReply {
                     answer,
                     state: None,
+                    kept: true,
                 }];
             }
         };
@@ -147,10 +151,12 @@ fn parted(ours: &CallReply, theirs: &CallReply) -> String {
         CallReply {
             answer: a,
             state: Some(s),
+            kept: true,
         },
         CallReply {
             answer: b,
             state: Some(t),
+            kept: true,
         },
     ) = (ours, theirs)
     else {

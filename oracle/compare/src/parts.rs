@@ -18,6 +18,8 @@ mod root;
 mod sensors;
 #[cfg(feature = "replay")]
 mod settings;
+#[cfg(feature = "tracker")]
+mod tracker;
 
 use trials::Part;
 
@@ -49,6 +51,8 @@ pub const PARTS: &[Entry] = &[
     entry::<sensors::SensorsPart>(),
     #[cfg(feature = "replay")]
     entry::<settings::SettingsPart>(),
+    #[cfg(feature = "tracker")]
+    entry::<tracker::TrackerPart>(),
 ];
 
 const fn entry<P: Part>() -> Entry {

@@ -4,3 +4,5 @@
 pub mod pikowhanu;
 #[cfg(feature = "probe")]
 pub mod probe;
+#[cfg(feature = "tracker")]
+pub mod tracker;
