@@ -1,6 +1,7 @@
 //! A tracker and a sequence of calls on it; the reply has each call's answer and the whole state after it.
 
 mod floor;
+mod met;
 
 use std::fmt::Debug;
 
@@ -12,8 +13,9 @@ use factor_tracker_core::types::{
     ClassLabel, ObservationBatch3D, Position3DObservation, SensorId, Timestamp,
 };
 use inputs::Random;
-use trials::Case;
+use trials::{Case, Counts};
 
+use self::met::Met;
 use crate::settings::{frame_of, frame_word, settings_of, settings_words};
 use crate::words::{self, float, floats, optional, Words};
 
@@ -89,20 +91,41 @@ impl Case for CallsCase {
     }
 
     fn judged(&self) -> Vec<CallReply> {
+        self.judged_counting(&mut Counts::default())
+    }
+
+    const COUNTED: &'static [&'static str] = met::NAMES;
+
+    fn judged_counting(&self, counts: &mut Counts) -> Vec<CallReply> {
         let mut tracker = match Tracker::new(&self.settings) {
             Ok(tracker) => tracker,
             Err(field) => {
-                let answer = Answer::BadField(field);
-                return vec![CallReply {
-                    answer,
+                let bad = CallReply {
+                    answer: Answer::BadField(field),
                     state: None,
                     kept: true,
-                }];
+                };
+                met::made(&bad, counts);
+                return vec![bad];
             }
         };
-        let first = CallReply::new(Ok(Answer::Done), tracker.state());
-        let calls = self.calls.iter().map(|call| called(&mut tracker, call));
-        std::iter::once(first).chain(calls).collect()
+        let mut before = tracker.state();
+        let mut replies = vec![CallReply::new(Ok(Answer::Done), before.clone())];
+        met::made(&replies[0], counts);
+        for call in &self.calls {
+            let reply = called(&mut tracker, call);
+            let after = reply.state.clone().expect("a state");
+            let mut met = Met {
+                settings: &self.settings,
+                before: &before,
+                after: &after,
+                counts,
+            };
+            met.called(call, &reply.answer, tracker.stopped_at());
+            before = after;
+            replies.push(reply);
+        }
+        replies
     }
 
     fn smaller(&self) -> impl Iterator<Item = Self> {

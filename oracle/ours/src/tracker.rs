@@ -207,7 +207,8 @@ const _: () = {
     assert!(offset_of!(PkBatch, count) == 64 && offset_of!(PkBatch, detections) == 72);
     assert!(offset_of!(PkAssociation, cost) == 16 && offset_of!(PkAssociation, outcome) == 24);
     assert!(
-        offset_of!(PkReport, associations) == 32 && offset_of!(PkReport, unmatched_track_ids) == 2592
+        offset_of!(PkReport, associations) == 32
+            && offset_of!(PkReport, unmatched_track_ids) == 2592
     );
 };
 

@@ -2,6 +2,8 @@
 
 use inputs::Random;
 
+use crate::counts::Counts;
+
 /// An input of one part, with the oracle's reply to it.
 pub trait Case: Clone {
     /// All that can be seen of the part's answer.
@@ -14,6 +16,14 @@ pub trait Case: Clone {
 
     /// The oracle's reply.
     fn judged(&self) -> Self::Reply;
+
+    /// What is counted over a run, in the order of the table.
+    const COUNTED: &'static [&'static str] = &[];
+
+    /// The oracle's reply, and what the case meets of that.
+    fn judged_counting(&self, _counts: &mut Counts) -> Self::Reply {
+        self.judged()
+    }
 
     /// Cases that are smaller than this one, the boldest first. Each chain of them must end.
     fn smaller(&self) -> impl Iterator<Item = Self>;

@@ -2,14 +2,17 @@
 
 use inputs::Random;
 
+use crate::counts::Counts;
 use crate::part::{Case, Part};
 use crate::progress::Progress;
 
 /// The fixed cases, then `count` random ones. Says what was found; true if nothing differs.
 pub fn random<P: Part>(seed: u64, count: u64) -> bool {
     let fixed = P::Case::fixed();
-    match first_difference::<P>(&fixed, seed, count) {
+    let mut counts = Counts::default();
+    match first_difference::<P>(&fixed, seed, count, &mut counts) {
         None => {
+            print!("{}", counts.table(P::Case::COUNTED));
             println!(
                 "{}: {}: {} fixed and {count} random cases, seed {seed}: none differs",
                 P::NAME,
@@ -46,12 +49,13 @@ pub(crate) fn first_difference<P: Part>(
     fixed: &[P::Case],
     seed: u64,
     count: u64,
+    counts: &mut Counts,
 ) -> Option<(u64, P::Case)> {
     let mut random = Random::new(seed);
     let mut progress = Progress::new(P::NAME, fixed.len() as u64 + count);
     let more = (0..count).map(|_| P::Case::random(&mut random));
     for (tried, case) in (1..).zip(fixed.iter().cloned().chain(more)) {
-        if differs::<P>(&case) {
+        if P::ours(&case) != case.judged_counting(counts) {
             progress.end();
             return Some((tried, case));
         }

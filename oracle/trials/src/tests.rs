@@ -2,6 +2,7 @@
 
 use inputs::Random;
 
+use crate::counts::Counts;
 use crate::part::{Case, Part};
 use crate::run;
 
@@ -69,7 +70,7 @@ fn words(text: &str) -> Vec<String> {
 
 #[test]
 fn the_fault_is_found_and_made_small() {
-    let found = run::first_difference::<Sum>(&Pair::fixed(), 1, 1000);
+    let found = run::first_difference::<Sum>(&Pair::fixed(), 1, 1000, &mut Counts::default());
     let (tried, case) = found.expect("a fault");
     assert!(tried > 2, "the fixed cases have no fault");
     assert_eq!(run::smallest::<Sum>(case), Pair(10, 1));
@@ -78,7 +79,7 @@ fn the_fault_is_found_and_made_small() {
 
 #[test]
 fn one_seed_gives_one_run() {
-    let first = |seed| run::first_difference::<Sum>(&[], seed, 1000);
+    let first = |seed| run::first_difference::<Sum>(&[], seed, 1000, &mut Counts::default());
     assert_eq!(first(5), first(5));
     assert_ne!(first(5), first(6));
 }

@@ -1,10 +1,12 @@
-//! Random sequences of calls, made on a floor where a few people walk: near and far detections, several sensors,
-//! equal and jumping times, and now and then a call that is refused.
+//! Random sequences of calls, made on floors where something happens: people who walk, cross, stop, leave and come back, crowds up to
+//! each limit, several sensors, equal and jumping times, covariances near every edge, and now and then a call that is refused.
 
+mod moods;
+
+use factor_tracker_core::judge::settings::SPOILERS;
 use factor_tracker_core::tracker::Cartesian3DTrackerConfig;
 use factor_tracker_core::types::{
     ClassLabel, FrameId, ObservationBatch3D, Position3DObservation, SensorId, Timestamp,
-    TrackerConfig,
 };
 use inputs::Random;
 use nalgebra::{Matrix3, Vector2, Vector3};
@@ -15,45 +17,41 @@ use crate::covariances::{covariance, Rows};
 use crate::floats;
 use crate::settings::SettingsCase;
 
-/// What is unusual on a floor.
-#[derive(Clone, Copy, PartialEq)]
-enum Mood {
-    Everyday,
-    /// So many detections that the limits are met.
-    Crowded,
-    /// So many sensors that the limit is met.
-    Sensors,
-    /// Times so far apart that differences overflow.
-    Times,
-    /// Numbers so large that distances overflow.
-    Huge,
-    /// Second boxes on a grid round one who stands still, where distances are equal.
-    Grid,
-}
+use moods::Mood;
 
-/// Deviations of a measured velocity; the squares of the last two are infinite and zero.
-const DEVIATIONS: [f64; 10] = [0.5, 1.0, 0.1, 0.2, 2.0, 0.5, 1.0, 0.25, 1e200, 1e-200];
+/// One who walks about.
+struct Person {
+    place: [f64; 3],
+    velocity: [f64; 3],
+    /// For so many batches nobody sees them.
+    away: u64,
+}
 
 struct Floor {
     mood: Mood,
     settings: Cartesian3DTrackerConfig,
-    people: Vec<[f64; 3]>,
+    people: Vec<Person>,
     sequences: Vec<u64>,
+    /// The sensor of the last batch.
+    sensor: usize,
     time: i64,
 }
 
 pub fn calls(random: &mut Random) -> CallsCase {
-    if random.below(64) == 0 {
-        let SettingsCase(settings) = SettingsCase::random(random);
+    if random.below(32) == 0 {
         return CallsCase {
-            settings,
+            settings: any_settings(random),
             calls: Vec::new(),
         };
     }
-    let mut floor = Floor::new(random);
-    let count = match floor.mood {
+    let mood = moods::any(random);
+    if mood == Mood::Gate {
+        return moods::at_the_gate(random);
+    }
+    let mut floor = Floor::new(random, mood);
+    let count = match mood {
         Mood::Sensors => 40,
-        Mood::Crowded => 1 + random.below(8),
+        Mood::Crowded | Mood::Full | Mood::Neighbours => 2 + random.below(6),
         _ => 1 + random.below(20),
     };
     let calls = (0..count).map(|_| floor.call(random)).collect();
@@ -61,6 +59,16 @@ pub fn calls(random: &mut Random) -> CallsCase {
         settings: floor.settings,
         calls,
     }
+}
+
+/// Settings of any kind, or good ones with one field spoilt.
+fn any_settings(random: &mut Random) -> Cartesian3DTrackerConfig {
+    if random.below(2) == 0 {
+        return SettingsCase::random(random).0;
+    }
+    let mut settings = moods::settings(random, Mood::Everyday);
+    SPOILERS[random.below(SPOILERS.len() as u64) as usize](&mut settings);
+    settings
 }
 
 pub fn vector2(items: [f64; 2]) -> Vector2<f64> {
@@ -101,94 +109,44 @@ fn on_a_grid(random: &mut Random) -> [f64; 3] {
     [step(random), one_of(random, &[0.0, 0.0, 0.25]), 0.0]
 }
 
+/// A place so far from most others that no two pair.
+fn spread_out(random: &mut Random) -> [f64; 3] {
+    [0.0; 3].map(|_| 100.0 * (random.below(40) as f64 - 20.0))
+}
+
 fn one_of<T: Copy>(random: &mut Random, items: &[T]) -> T {
     items[random.below(items.len() as u64) as usize]
 }
 
-fn common(random: &mut Random, mood: Mood) -> TrackerConfig {
-    let timeouts: &[i64] = match mood {
-        Mood::Times => &[i64::MAX, i64::MAX, 1_000_000_000],
-        _ => &[1_000_000_000, 200_000_000, 1],
-    };
-    let confirmed_to_lost_ns = one_of(random, timeouts);
-    TrackerConfig {
-        confirm_min_observation_times: one_of(random, &[0, 1, 2, 2, 3]),
-        tentative_timeout_ns: one_of(random, timeouts),
-        confirmed_to_lost_ns,
-        lost_to_delete_ns: confirmed_to_lost_ns.saturating_mul(one_of(random, &[1, 2, 4])),
-        new_track_score_threshold: one_of(random, &[None, Some(0.3), Some(0.0)]),
-        max_contributing_sensors: one_of(random, &[1, 2, 16]),
-    }
-}
-
-fn settings(random: &mut Random, mood: Mood) -> Cartesian3DTrackerConfig {
-    let gates: &[f64] = match mood {
-        Mood::Huge => &[f64::MAX, 1e300, 16.266],
-        _ => &[16.266, 16.266, 1.0, 100.0],
-    };
-    let settings = Cartesian3DTrackerConfig {
-        common: common(random, mood),
-        accel_spectral_density: one_of(random, &[1.0, 0.0, -0.0, 8.0, 1e280]),
-        initial_velocity_variance: one_of(random, &[4.0, 0.25, 1e-300]),
-        gate_squared_mahalanobis: one_of(random, gates),
-        class_prior_penalty: one_of(random, &[8.0, 0.0, 1e308]),
-        recent_track_window_ns: sometimes(random, |r| one_of(r, &[1, 150_000_000, i64::MAX])),
-        min_birth_distance_m: sometimes(random, |r| one_of(r, &[0.8, 2.0, 1e9])),
-        birth_persistence: sometimes(random, |r| one_of(r, &[2, 2, 3])),
-        birth_candidate_radius_m: one_of(random, &[0.5, 2.0]),
-        birth_candidate_timeout_ns: one_of(random, &[300_000_000, 1, i64::MAX]),
-        velocity_measurement_std: sometimes(random, |r| one_of(r, &DEVIATIONS)),
-        ..Cartesian3DTrackerConfig::default()
-    };
-    match mood {
-        Mood::Grid => settings_of_the_grid(random, settings),
-        _ => settings,
-    }
-}
-
-/// Candidates are kept, and the grid has lengths that are equal to the distance and to the radius.
-fn settings_of_the_grid(
-    random: &mut Random,
-    mut settings: Cartesian3DTrackerConfig,
-) -> Cartesian3DTrackerConfig {
-    settings.common.new_track_score_threshold = None;
-    settings.min_birth_distance_m = Some(one_of(random, &[0.75, 2.0]));
-    settings.birth_persistence = Some(one_of(random, &[2, 3, 4]));
-    settings.birth_candidate_radius_m = one_of(random, &[0.5, 0.75, 2.0]);
-    settings.birth_candidate_timeout_ns = one_of(random, &[300_000_000, i64::MAX]);
-    settings
-}
-
 impl Floor {
-    fn new(random: &mut Random) -> Self {
-        let mood = match random.below(16) {
-            0 => Mood::Crowded,
-            1 => Mood::Sensors,
-            2 => Mood::Times,
-            3 => Mood::Huge,
-            4 | 5 => Mood::Grid,
-            _ => Mood::Everyday,
-        };
+    fn new(random: &mut Random, mood: Mood) -> Self {
         let (people, sensors, limit) = match mood {
             Mood::Crowded => (40, 2, 300.0),
             Mood::Sensors => (1, 34, 6.0),
-            Mood::Grid => (1, 1, 0.0),
+            Mood::Grid | Mood::Neighbours => (1, 1, 0.0),
+            Mood::Full => (0, 1, 0.0),
+            Mood::Classes => (2 + random.below(3), 1, 0.5),
+            Mood::Crossing => (2 + random.below(3), 2, 3.0),
             _ => (random.below(5), 1 + random.below(3) as usize, 6.0),
         };
-        let place = |random: &mut Random| [0.0; 3].map(|_| floats::within(random, limit));
         Floor {
             mood,
-            settings: settings(random, mood),
-            people: (0..people).map(|_| place(random)).collect(),
+            settings: moods::settings(random, mood),
+            people: (0..people).map(|_| person(random, mood, limit)).collect(),
             sequences: vec![0; sensors],
+            sensor: 0,
             time: if mood == Mood::Times { i64::MIN } else { 0 },
         }
     }
 
     fn call(&mut self, random: &mut Random) -> Call {
+        let prior = match self.mood {
+            Mood::Classes => 4,
+            _ => 1,
+        };
         match random.below(12) {
             0 => Call::PredictTo(self.next_time(random)),
-            1 => Call::SetClassPrior {
+            n if n <= prior => Call::SetClassPrior {
                 track: random.below(6),
                 label: random.below(3) as u32,
                 confidence: match random.below(4) {
@@ -203,18 +161,18 @@ impl Floor {
     /// Most calls go on by a tenth of a second, several bear one time, and some meet a timeout or miss it by one.
     fn next_time(&mut self, random: &mut Random) -> i64 {
         let common = &self.settings.common;
-        let after = match random.below(16) {
-            0..=3 => 0,
-            4 => common
-                .tentative_timeout_ns
-                .saturating_add(random.below(3) as i64 - 1),
-            5 => common
-                .confirmed_to_lost_ns
-                .saturating_add(random.below(3) as i64 - 1),
-            6 => 150_000_000 + random.below(3) as i64 - 1,
-            7 if self.mood == Mood::Times => i64::MAX,
-            8 if self.mood == Mood::Times => return one_of(random, &[-1, 5, i64::MAX]),
-            9 if random.below(4) == 0 => -1,
+        let near = |time: i64, random: &mut Random| time.saturating_add(random.below(3) as i64 - 1);
+        let after = match random.below(20) {
+            0..=4 => 0,
+            5 => near(common.tentative_timeout_ns, random),
+            6 => near(common.confirmed_to_lost_ns, random),
+            7 if random.below(2) == 0 => near(common.lost_to_delete_ns, random),
+            8 => near(self.settings.recent_track_window_ns.unwrap_or(1), random),
+            9 if random.below(2) == 0 => near(self.settings.birth_candidate_timeout_ns, random),
+            10 if random.below(4) == 0 => -1,
+            11 | 12 if self.mood == Mood::Times => i64::MAX,
+            13 | 14 if self.mood == Mood::Times => return one_of(random, &[-1, 5, i64::MAX]),
+            15 if self.mood == Mood::Huge => 5_000_000_000,
             _ => 100_000_000,
         };
         let next = self.time.saturating_add(after);
@@ -224,44 +182,54 @@ impl Floor {
 
     fn batch(&mut self, random: &mut Random) -> ObservationBatch3D {
         let timestamp = Timestamp::from_nanos(self.next_time(random));
-        let sensor = random.below(self.sequences.len() as u64) as usize;
+        self.sensor = match self.mood {
+            Mood::Sensors => (self.sensor + 1) % self.sequences.len(),
+            _ => random.below(self.sequences.len() as u64) as usize,
+        };
         if random.below(40) > 0 {
-            self.sequences[sensor] += 1 + random.below(2);
+            self.sequences[self.sensor] += 1 + random.below(2);
         }
         let mut observations = self.walk(random);
         let more = match self.mood {
             Mood::Crowded => random.below(30),
-            Mood::Huge | Mood::Grid => random.below(5),
+            Mood::Full | Mood::Neighbours => one_of(random, &[1, 2, 4, 32, 60, 63, 64, 65]),
+            Mood::Huge | Mood::Grid | Mood::Singular => random.below(5),
             _ => random.below(3),
         };
         observations.extend((0..more).map(|_| self.clutter(random)));
+        if random.below(8) == 0 {
+            observations.extend(observations.first().cloned());
+        }
         ObservationBatch3D {
-            sensor_id: SensorId::new(10 * sensor as u32),
-            sequence: self.sequences[sensor],
+            sensor_id: SensorId::new(10 * self.sensor as u32),
+            sequence: self.sequences[self.sensor],
             timestamp,
-            frame_id: match random.below(60) {
-                0 => FrameId::new(one_of(
-                    random,
-                    &["", "worlds", "a name of more than thirty-two bytes"],
-                )),
-                _ => self.settings.frame_id.clone(),
-            },
+            frame_id: self.frame(random),
             observations,
+        }
+    }
+
+    fn frame(&self, random: &mut Random) -> FrameId {
+        const OTHERS: [&str; 3] = ["", "worlds", "a name of more than thirty-two bytes"];
+        match random.below(60) {
+            0 => FrameId::new(one_of(random, &OTHERS)),
+            _ => self.settings.frame_id.clone(),
         }
     }
 
     /// Everybody takes a step, and most are seen.
     fn walk(&mut self, random: &mut Random) -> Vec<Position3DObservation> {
-        let (step, error) = match self.mood {
-            Mood::Grid => (0.0, 0.0),
-            _ => (0.1, 0.2),
+        let mood = self.mood;
+        let error = match mood {
+            Mood::Grid | Mood::Neighbours => 0.0,
+            _ => 0.2,
         };
         let mut seen = Vec::new();
         for person in &mut self.people {
-            *person = person.map(|x| x + floats::within(random, step));
-            if random.below(5) > 0 {
-                let place = person.map(|x| x + floats::within(random, error));
-                seen.push(dressed(random, place));
+            person.step(random);
+            if person.away == 0 && random.below(8) > 0 {
+                let place = person.place.map(|x| x + floats::within(random, error));
+                seen.push(moods::dressed(random, mood, place));
             }
         }
         seen
@@ -269,39 +237,48 @@ impl Floor {
 
     /// A second box beside a person, a place where nobody is, or one beyond all sense.
     fn clutter(&self, random: &mut Random) -> Position3DObservation {
-        let beside = self.people.first().copied().unwrap_or_default();
+        let beside = self.people.first().map_or([0.0; 3], |p| p.place);
         let place = match (random.below(8), self.mood) {
             (0, Mood::Huge) => [0.0; 3].map(|_| floats::within(random, 1e200)),
             (_, Mood::Huge) => far_out(random),
             (_, Mood::Grid) => on_a_grid(random),
+            (_, Mood::Full | Mood::Neighbours) => spread_out(random),
             (0..=3, _) => beside.map(|x| x + floats::within(random, 1.0)),
             (4, _) => [0.0; 3].map(|_| one_of(random, &[0.0, -0.0, 2.0])),
             _ => [0.0; 3].map(|_| floats::within(random, 300.0)),
         };
-        dressed(random, place)
+        moods::dressed(random, self.mood, place)
     }
 }
 
-/// A detection at a place, with all that it may carry.
-fn dressed(random: &mut Random, place: [f64; 3]) -> Position3DObservation {
-    let place = match random.below(200) {
-        0 => place.map(|_| floats::edge(random)),
-        _ => place,
+impl Person {
+    /// Goes on, and now and then stops, turns, leaves or comes back.
+    fn step(&mut self, random: &mut Random) {
+        self.away = self.away.saturating_sub(1);
+        for (x, v) in self.place.iter_mut().zip(self.velocity) {
+            *x += 0.1 * v;
+        }
+        match random.below(24) {
+            0 => self.velocity = [0.0; 3],
+            1 => self.velocity = self.velocity.map(|v| -v),
+            2 => self.away = 1 + random.below(6),
+            3 => self.velocity = [0.0; 3].map(|_| floats::within(random, 1.0)),
+            _ => (),
+        }
+    }
+}
+
+/// One of those on a floor; where they cross, all walk to its middle.
+fn person(random: &mut Random, mood: Mood, limit: f64) -> Person {
+    let place = [0.0; 3].map(|_| floats::within(random, limit));
+    let velocity = match mood {
+        Mood::Grid | Mood::Neighbours => [0.0; 3],
+        Mood::Crossing => place.map(|x| -x),
+        _ => [0.0; 3].map(|_| floats::within(random, 1.0)),
     };
-    let rows = match random.below(6) {
-        0 => covariance(random),
-        _ => [[0.04, 0.0, 0.0], [0.0, 0.04, 0.0], [0.0, 0.0, 0.04]],
-    };
-    Position3DObservation {
-        class_label: sometimes(random, |random| ClassLabel::new(random.below(3) as u32)),
-        score: sometimes(random, |random| match random.below(8) {
-            0 => floats::edge(random),
-            _ => floats::unit(random),
-        }),
-        velocity: sometimes(random, |random| match random.below(100) {
-            0 => vector2([floats::edge(random), 0.0]),
-            _ => vector2([floats::within(random, 2.0), floats::within(random, 2.0)]),
-        }),
-        ..detection(place, rows)
+    Person {
+        place,
+        velocity,
+        away: 0,
     }
 }

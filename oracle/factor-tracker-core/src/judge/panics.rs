@@ -9,24 +9,38 @@ thread_local! {
     static HEARD: RefCell<Option<String>> = const { RefCell::new(None) };
 }
 
-/// Runs the work; nothing if an age overflowed in it. Any other panic goes on.
-pub fn unless_an_age_overflows<T>(work: impl FnOnce() -> T) -> Option<T> {
+/// The Rust's tracker, to see which age a line of it takes.
+const SOURCE: &str = include_str!("../../../../target/oracle/rust/tracker/tracker3d.rs");
+
+/// Runs the work; if an age overflowed in it, which of the two. Any other panic goes on.
+pub fn unless_an_age_overflows<T>(work: impl FnOnce() -> T) -> Result<T, &'static str> {
     listen();
     HEARD.set(Some(String::new()));
     let result = catch_unwind(AssertUnwindSafe(work));
     let heard = HEARD.take().unwrap_or_default();
     match result {
-        Ok(value) => Some(value),
+        Ok(value) => Ok(value),
         Err(_)
             if heard.contains("tracker3d.rs")
                 && heard.contains("attempt to subtract with overflow") =>
         {
-            None
+            Err(age_in(&heard))
         }
         Err(panic) => {
             eprintln!("{heard}");
             resume_unwind(panic)
         }
+    }
+}
+
+/// Which age the line takes that a panic's text names, as `tracker3d.rs:LINE:COLUMN`.
+fn age_in(heard: &str) -> &'static str {
+    let line = heard.split("tracker3d.rs:").nth(1);
+    let line: Option<usize> = line.and_then(|rest| rest.split(':').next()?.parse().ok());
+    let text = line.and_then(|line| SOURCE.lines().nth(line - 1));
+    match text.is_some_and(|text| text.contains("last_seen")) {
+        true => "candidate age",
+        false => "window age",
     }
 }
 

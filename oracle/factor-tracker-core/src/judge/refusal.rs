@@ -33,3 +33,22 @@ pub fn of_numeric(error: &NumericError) -> u32 {
         NumericError::SolveFailed { .. } => panic!("the 3D tracker does not give {error}"),
     }
 }
+
+/// Where the Rust stopped, in its own words where it has some.
+pub fn place(error: &TrackerError) -> &'static str {
+    match error {
+        TrackerError::Input(
+            InputError::NonFiniteValue { context } | InputError::InvalidCovariance { context, .. },
+        )
+        | TrackerError::Numeric(
+            NumericError::NotPositiveDefinite { context }
+            | NumericError::NonFiniteResult { context },
+        ) => context,
+        TrackerError::Input(InputError::FrameMismatch { .. }) => "frame",
+        TrackerError::Input(InputError::TimestampWentBackwards { .. }) => "time",
+        TrackerError::Input(InputError::DuplicateBatch { .. }) => "sequence",
+        TrackerError::Input(InputError::TimestampOverflow) => "time difference",
+        TrackerError::Numeric(NumericError::AssignmentFailed) => "assignment",
+        _ => panic!("the 3D tracker does not give {error}"),
+    }
+}

@@ -24,12 +24,26 @@ pub struct Tracker {
     sensors: BTreeSet<SensorId>,
     scores_matter: bool,
     candidates_are_kept: bool,
+    stopped_at: &'static str,
 }
 
-/// Where a batch was refused, and the specification's number.
+/// Where a batch was refused, the specification's number, and the tracker that the Rust left where it was the Rust that refused.
 struct Stopped {
     stage: Stage,
     number: u32,
+    place: &'static str,
+    left: Option<Box<Cartesian3DTracker>>,
+}
+
+impl Stopped {
+    fn at_a_limit(place: &'static str) -> Self {
+        Stopped {
+            stage: Stage::Births,
+            number: 11,
+            place,
+            left: None,
+        }
+    }
 }
 
 #[derive(PartialEq)]
@@ -60,6 +74,7 @@ impl Tracker {
             scores_matter: settings.common.new_track_score_threshold.is_some(),
             candidates_are_kept: settings.min_birth_distance_m.is_some()
                 && settings.birth_persistence.is_some(),
+            stopped_at: "",
         })
     }
 
@@ -67,9 +82,17 @@ impl Tracker {
         TrackerState::of(&self.rust)
     }
 
+    /// Where the last refused call stopped.
+    pub fn stopped_at(&self) -> &'static str {
+        self.stopped_at
+    }
+
     pub fn predict_to(&mut self, time: i64) -> Result<(), u32> {
         let moved = self.rust.predict_to(Timestamp::from_nanos(time));
-        moved.map_err(|error| refusal::of(&error))
+        moved.map_err(|error| {
+            self.stopped_at = refusal::place(&error);
+            refusal::of(&error)
+        })
     }
 
     pub fn set_class_prior(&mut self, track: u64, label: u32, confidence: f64) -> Result<(), u32> {
@@ -78,27 +101,62 @@ impl Tracker {
         set.then_some(()).ok_or(12)
     }
 
-    /// The report, or the refusal's number.
+    /// The report, or the refusal's number. After a refusal of the Rust's own the tracker is what the Rust left of it.
     pub fn process_batch(&mut self, batch: &ObservationBatch3D) -> Result<Report, u32> {
+        match self.processed(batch) {
+            Ok((after, report)) => {
+                self.rust = after;
+                self.sensors.insert(batch.sensor_id);
+                Ok(Report::of(&report))
+            }
+            Err(stopped) => {
+                self.stopped_at = self.place(batch, &stopped);
+                if let Some(left) = stopped.left {
+                    self.rust = *left;
+                }
+                Err(stopped.number)
+            }
+        }
+    }
+
+    fn processed(
+        &self,
+        batch: &ObservationBatch3D,
+    ) -> Result<(Cartesian3DTracker, BatchReport3D), Stopped> {
         let count = batch.observations.len();
         if count > PLACES {
-            return Err(11);
+            return Err(Stopped::at_a_limit("detections"));
         }
-        let (after, outcome) = self.run(batch, count);
+        let outcome = self.run(batch, count);
         let stage = outcome.as_ref().err().map(|stopped| &stopped.stage);
         let a_sensor_too_many =
             self.sensors.len() == SENSORS && !self.sensors.contains(&batch.sensor_id);
         if a_sensor_too_many && stage != Some(&Stage::Checks) {
-            return Err(11);
+            return Err(Stopped::at_a_limit("sensors"));
         }
-        let (after, report) = match outcome {
-            Ok(report) if self.has_kept_limits(&after, &report) => (after, report),
-            Err(stopped) if stopped.stage != Stage::Births => return Err(stopped.number),
-            _ => self.within_limits(batch)?,
+        match outcome {
+            Ok((after, report)) if self.has_kept_limits(&after, &report) => Ok((after, report)),
+            Err(stopped) if stopped.stage != Stage::Births => Err(stopped),
+            _ => self.within_limits(batch),
+        }
+    }
+
+    /// Where a batch stopped. The Rust has the same words for both updates: it is the velocity's where the batch without velocities does
+    /// not stop there.
+    fn place(&self, batch: &ObservationBatch3D, stopped: &Stopped) -> &'static str {
+        let of_velocity = match stopped.place {
+            "innovation covariance" => "velocity's innovation covariance",
+            "Kalman update" => "velocity's Kalman update",
+            place => return place,
         };
-        self.rust = after;
-        self.sensors.insert(batch.sensor_id);
-        Ok(Report::of(&report))
+        let mut without = batch.clone();
+        for observation in &mut without.observations {
+            observation.velocity = None;
+        }
+        match self.run(&without, 0) {
+            Err(again) if again.place == stopped.place => stopped.place,
+            _ => of_velocity,
+        }
     }
 
     /// What the Rust makes of a batch whose detections from `born` on may not begin a track or leave a candidate.
@@ -106,7 +164,7 @@ impl Tracker {
         &self,
         batch: &ObservationBatch3D,
         born: usize,
-    ) -> (Cartesian3DTracker, Result<BatchReport3D, Stopped>) {
+    ) -> Result<(Cartesian3DTracker, BatchReport3D), Stopped> {
         let mut handed = batch.clone();
         for (j, observation) in handed.observations.iter_mut().enumerate() {
             if j >= born {
@@ -117,18 +175,21 @@ impl Tracker {
         }
         let mut tracker = self.rust.clone();
         let outcome = panics::unless_an_age_overflows(|| tracker.process_batch_reported(&handed));
-        let outcome = match outcome {
-            None => Err(Stopped {
+        match outcome {
+            Err(age) => Err(Stopped {
                 stage: Stage::Steps,
                 number: 8,
+                place: age,
+                left: None,
             }),
-            Some(Err(error)) => Err(Stopped {
+            Ok(Err(error)) => Err(Stopped {
                 stage: stage_of(&error),
                 number: refusal::of(&error),
+                place: refusal::place(&error),
+                left: Some(Box::new(tracker)),
             }),
-            Some(Ok((_, report))) => Ok(report),
-        };
-        (tracker, outcome)
+            Ok(Ok((_, report))) => Ok((tracker, report)),
+        }
     }
 
     /// Whether no limit was reached on the way to this outcome. Births only add tracks; and each detection that
@@ -152,17 +213,21 @@ impl Tracker {
     fn within_limits(
         &self,
         batch: &ObservationBatch3D,
-    ) -> Result<(Cartesian3DTracker, BatchReport3D), u32> {
-        let (mut before, outcome) = self.run(batch, 0);
-        let mut report = outcome.map_err(|stopped| stopped.number)?;
+    ) -> Result<(Cartesian3DTracker, BatchReport3D), Stopped> {
+        let (mut before, mut report) = self.run(batch, 0)?;
         for born in 1..=batch.observations.len() {
-            let (after, outcome) = self.run(batch, born);
             let full = before.active_track_count() == PLACES;
-            report = outcome.map_err(|stopped| if full { 11 } else { stopped.number })?;
-            if after.active_track_count() > PLACES || self.candidates(&after) > PLACES {
-                return Err(11);
+            let (after, told) = self.run(batch, born).map_err(|stopped| match full {
+                true => Stopped::at_a_limit("tracks"),
+                false => stopped,
+            })?;
+            if after.active_track_count() > PLACES {
+                return Err(Stopped::at_a_limit("tracks"));
             }
-            before = after;
+            if self.candidates(&after) > PLACES {
+                return Err(Stopped::at_a_limit("candidates"));
+            }
+            (before, report) = (after, told);
         }
         Ok((before, report))
     }
