@@ -6,6 +6,8 @@ mod assignment;
 mod filter;
 #[cfg(feature = "pikowhanu")]
 mod root;
+#[cfg(feature = "tracker")]
+mod tracker;
 
 use crate::measure::{measure, Measured, Row};
 
@@ -57,6 +59,46 @@ pub const ROWS: &[Entry] = &[
     entry::<assignment::Tables<assignment::Products32>>(),
     #[cfg(feature = "pikowhanu")]
     entry::<assignment::Tables<assignment::Products64>>(),
+    #[cfg(feature = "tracker")]
+    entry::<tracker::Batches<tracker::Spread5>>(),
+    #[cfg(feature = "tracker")]
+    entry::<tracker::Batches<tracker::Spread10>>(),
+    #[cfg(feature = "tracker")]
+    entry::<tracker::Batches<tracker::Spread20>>(),
+    #[cfg(feature = "tracker")]
+    entry::<tracker::Batches<tracker::Spread64>>(),
+    #[cfg(feature = "tracker")]
+    entry::<tracker::Batches<tracker::Grid64>>(),
+    #[cfg(feature = "tracker")]
+    entry::<tracker::Batches<tracker::Cascade10>>(),
+    #[cfg(feature = "tracker")]
+    entry::<tracker::Batches<tracker::Cascade64>>(),
+    #[cfg(feature = "tracker")]
+    entry::<tracker::Batches<tracker::Births10>>(),
+    #[cfg(feature = "tracker")]
+    entry::<tracker::Batches<tracker::Births64>>(),
+    #[cfg(feature = "tracker")]
+    entry::<tracker::Batches<tracker::Velocity10>>(),
+    #[cfg(feature = "tracker")]
+    entry::<tracker::Batches<tracker::Velocity64>>(),
+    #[cfg(feature = "tracker")]
+    entry::<tracker::Batches<tracker::All10>>(),
+    #[cfg(feature = "tracker")]
+    entry::<tracker::Batches<tracker::All64>>(),
+    #[cfg(feature = "tracker")]
+    entry::<tracker::Batches<tracker::AllGrid64>>(),
+    #[cfg(feature = "tracker")]
+    entry::<tracker::Steps<tracker::Predict10>>(),
+    #[cfg(feature = "tracker")]
+    entry::<tracker::Steps<tracker::Predict64>>(),
+    #[cfg(feature = "tracker")]
+    entry::<tracker::Steps<tracker::Prior10>>(),
+    #[cfg(feature = "tracker")]
+    entry::<tracker::Steps<tracker::Prior64>>(),
+    #[cfg(feature = "tracker")]
+    entry::<tracker::Steps<tracker::Snapshots10>>(),
+    #[cfg(feature = "tracker")]
+    entry::<tracker::Steps<tracker::Snapshots64>>(),
 ];
 
 /// What a reader must know of the rows.
@@ -70,7 +112,11 @@ as two arrays, the Rust's on its own types, with F, Q and the velocity's H and R
 copied before each prediction and update. Distance per pair: every track with every position; ours does once for each track what is the
 track's own and takes the position's covariance as checked, as a batch does, where the Rust does all for each pair.
 assignment: 16 random tables of each side, ours through C, the Rust's linear_assignment over rows as it takes them. Dense: every
-pair is within the gate; fours: each row has two or three finite costs, in groups of at most four; crowd: as many, anywhere; i x j: entry i times j.";
+pair is within the gate; fours: each row has two or three finite costs, in groups of at most four; crowd: as many, anywhere; i x j: entry i times j.
+tracker: a batch every tenth of a second on a floor where people walk about, 3 m apart or on a 1 m grid, each seen in each batch, all batches
+accepted; ours through C from filled records, the Rust's process_batch_reported on its own types (it gives snapshots as well). Cascade: a window of
+three batches; births: a second box beside one person, and one who is seen once, in each batch, six of the tracks being such ones; velocity: taken
+with deviation 0.5. Tracks are read in place, where the Rust makes snapshots.";
 
 const fn entry<R: Row>() -> Entry {
     Entry {

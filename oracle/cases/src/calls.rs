@@ -54,6 +54,15 @@ pub enum Answer {
 }
 
 impl CallReply {
+    /// The answer to settings that are refused.
+    pub fn bad(field: u32) -> Self {
+        CallReply {
+            answer: Answer::BadField(field),
+            state: None,
+            kept: true,
+        }
+    }
+
     /// The answer to a call, and the state that it leaves.
     pub fn new(answer: Result<Answer, u32>, state: TrackerState) -> Self {
         CallReply {
@@ -79,6 +88,41 @@ fn called(tracker: &mut Tracker, call: &Call) -> CallReply {
     CallReply::new(answer, tracker.state())
 }
 
+impl CallsCase {
+    /// The oracle's replies, and what they meet where it is counted.
+    fn replies(&self, mut counts: Option<&mut Counts>) -> Vec<CallReply> {
+        let mut tracker = match Tracker::new(&self.settings) {
+            Ok(tracker) => tracker,
+            Err(field) => {
+                if let Some(counts) = counts {
+                    met::made(Some(field), counts);
+                }
+                return vec![CallReply::bad(field)];
+            }
+        };
+        let mut before = tracker.state();
+        let mut replies = vec![CallReply::new(Ok(Answer::Done), before.clone())];
+        if let Some(counts) = &mut counts {
+            met::made(None, counts);
+        }
+        for call in &self.calls {
+            let reply = called(&mut tracker, call);
+            if let (Some(counts), Some(after)) = (&mut counts, &reply.state) {
+                let mut met = Met {
+                    settings: &self.settings,
+                    before: &before,
+                    after,
+                    counts,
+                };
+                met.called(call, &reply.answer, tracker.stopped_at());
+                before = after.clone();
+            }
+            replies.push(reply);
+        }
+        replies
+    }
+}
+
 impl Case for CallsCase {
     type Reply = Vec<CallReply>;
 
@@ -91,41 +135,13 @@ impl Case for CallsCase {
     }
 
     fn judged(&self) -> Vec<CallReply> {
-        self.judged_counting(&mut Counts::default())
+        self.replies(None)
     }
 
     const COUNTED: &'static [&'static str] = met::NAMES;
 
     fn judged_counting(&self, counts: &mut Counts) -> Vec<CallReply> {
-        let mut tracker = match Tracker::new(&self.settings) {
-            Ok(tracker) => tracker,
-            Err(field) => {
-                let bad = CallReply {
-                    answer: Answer::BadField(field),
-                    state: None,
-                    kept: true,
-                };
-                met::made(&bad, counts);
-                return vec![bad];
-            }
-        };
-        let mut before = tracker.state();
-        let mut replies = vec![CallReply::new(Ok(Answer::Done), before.clone())];
-        met::made(&replies[0], counts);
-        for call in &self.calls {
-            let reply = called(&mut tracker, call);
-            let after = reply.state.clone().expect("a state");
-            let mut met = Met {
-                settings: &self.settings,
-                before: &before,
-                after: &after,
-                counts,
-            };
-            met.called(call, &reply.answer, tracker.stopped_at());
-            before = after;
-            replies.push(reply);
-        }
-        replies
+        self.replies(Some(counts))
     }
 
     fn smaller(&self) -> impl Iterator<Item = Self> {

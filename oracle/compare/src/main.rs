@@ -1,6 +1,7 @@
 //! Random runs of one part of ours against the oracle:
 //!   compare NAME [SEED] [COUNT]      random cases
 //!   compare NAME --case WORDS...     one case, as a difference prints it
+//!   compare NAME --first SEED COUNT  how many cases until the first that differs, without making it smaller
 //!   compare all [SEED]               every part, some seconds each
 
 mod parts;
@@ -36,6 +37,12 @@ fn command(words: &[String]) -> Result<bool, String> {
         .ok_or_else(usage)?;
     if rest.first().is_some_and(|word| word == "--case") {
         return (part.case)(&rest[1..]);
+    }
+    if rest.first().is_some_and(|word| word == "--first") {
+        let seed = number(rest.get(1), "seed")?.unwrap_or(1);
+        let found = (part.first)(seed, number(rest.get(2), "count")?);
+        println!("{}", found.map_or("none".to_string(), |n| n.to_string()));
+        return Ok(found.is_none());
     }
     let seed = number(rest.first(), "seed")?.unwrap_or_else(seed_of_the_clock);
     Ok((part.random)(seed, number(rest.get(1), "count")?))

@@ -30,6 +30,7 @@ pub struct Entry {
     pub random: fn(seed: u64, count: Option<u64>) -> bool,
     pub brief: fn(seed: u64) -> bool,
     pub case: fn(words: &[String]) -> Result<bool, String>,
+    pub first: fn(seed: u64, count: Option<u64>) -> Option<u64>,
 }
 
 pub const PARTS: &[Entry] = &[
@@ -62,5 +63,6 @@ const fn entry<P: Part>() -> Entry {
         random: |seed, count| trials::random::<P>(seed, count.unwrap_or(P::COUNT)),
         brief: |seed| trials::random::<P>(seed, P::BRIEF),
         case: trials::case::<P>,
+        first: |seed, count| trials::first::<P>(seed, count.unwrap_or(P::COUNT)),
     }
 }

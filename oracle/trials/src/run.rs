@@ -29,6 +29,16 @@ pub fn random<P: Part>(seed: u64, count: u64) -> bool {
     }
 }
 
+/// How many cases there are up to the first that differs, which is not made smaller. Nothing is counted.
+pub fn first<P: Part>(seed: u64, count: u64) -> Option<u64> {
+    let mut random = Random::new(seed);
+    let fixed = P::Case::fixed().into_iter();
+    let more = (0..count).map(|_| P::Case::random(&mut random));
+    let mut cases = fixed.chain(more).enumerate();
+    let found = cases.find(|(_, case)| differs::<P>(case));
+    found.map(|(before, _)| before as u64 + 1)
+}
+
 /// One case, given by its words.
 pub fn case<P: Part>(words: &[String]) -> Result<bool, String> {
     let case = P::Case::parse(words).ok_or_else(|| format!("{}: no such case", P::NAME))?;

@@ -10,7 +10,7 @@ use factor_tracker_core::types::{
 };
 use trials::Counts;
 
-use super::{Answer, Call, CallReply};
+use super::{Answer, Call};
 
 /// The names that are counted, in the order of the table.
 pub const NAMES: &[&str] = &[
@@ -184,12 +184,9 @@ pub struct Met<'a> {
     pub counts: &'a mut Counts,
 }
 
-/// The first call of a sequence.
-pub fn made(reply: &CallReply, counts: &mut Counts) {
-    counts.add(match reply.answer {
-        Answer::BadField(field) => NAMES[field as usize],
-        _ => NAMES[0],
-    });
+/// The first call of a sequence, with the bad field if there is one.
+pub fn made(bad: Option<u32>, counts: &mut Counts) {
+    counts.add(NAMES[bad.unwrap_or(0) as usize]);
 }
 
 impl Met<'_> {

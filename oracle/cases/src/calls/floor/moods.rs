@@ -140,7 +140,8 @@ fn of_the_full(settings: &mut Cartesian3DTrackerConfig) {
     settings.common.new_track_score_threshold = None;
     settings.min_birth_distance_m = None;
     settings.accel_spectral_density = 1.0;
-    settings.velocity_measurement_std = None;
+    // With it no track can begin with a velocity.
+    settings.velocity_measurement_std = Some(1e200);
 }
 
 /// Every detection beside the one who stands still leaves a candidate.
@@ -150,6 +151,7 @@ fn of_neighbours(random: &mut Random, settings: &mut Cartesian3DTrackerConfig) {
     settings.min_birth_distance_m = Some(1e9);
     settings.birth_persistence = Some(one_of(random, &[3, 4]));
     settings.birth_candidate_timeout_ns = i64::MAX;
+    settings.velocity_measurement_std = None;
 }
 
 /// One track stays, to which all sensors contribute.
@@ -174,7 +176,8 @@ pub fn dressed(random: &mut Random, mood: Mood, place: [f64; 3]) -> Position3DOb
             1 => 0.3,
             _ => floats::unit(random),
         }),
-        velocity: sometimes(random, |random| velocity(random, mood)).filter(|_| !plain),
+        velocity: sometimes(random, |random| velocity(random, mood))
+            .filter(|_| !plain || (mood == Mood::Full && random.below(40) == 0)),
         ..detection(place, spread(random, mood))
     }
 }
