@@ -1,7 +1,7 @@
 //! A tracker and a sequence of calls on it; the reply has each call's answer and the whole state after it.
 
-mod floor;
-mod met;
+pub(crate) mod floor;
+pub(crate) mod met;
 
 use std::fmt::Debug;
 
@@ -73,7 +73,7 @@ impl CallReply {
     }
 }
 
-fn called(tracker: &mut Tracker, call: &Call) -> CallReply {
+pub(crate) fn called(tracker: &mut Tracker, call: &Call) -> CallReply {
     let answer = match call {
         Call::PredictTo(time) => tracker.predict_to(*time).map(|()| Answer::Done),
         Call::SetClassPrior {
@@ -256,7 +256,7 @@ fn call_words(call: &Call) -> String {
     }
 }
 
-fn detection_words(detection: &Position3DObservation) -> String {
+pub(crate) fn detection_words(detection: &Position3DObservation) -> String {
     let place: Vec<f64> = detection.position.iter().copied().collect();
     let covariance: Vec<f64> = detection.covariance.iter().copied().collect();
     format!(

@@ -3,6 +3,7 @@
 pub mod assignment;
 pub mod calls;
 pub mod detections;
+pub mod far;
 pub mod filter;
 pub mod least;
 pub mod lifecycle;

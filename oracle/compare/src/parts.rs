@@ -6,6 +6,8 @@ mod assignment;
 mod detections;
 #[cfg(feature = "replay")]
 mod filter;
+#[cfg(feature = "tracker")]
+mod guarantee;
 #[cfg(feature = "pikowhanu")]
 mod least;
 #[cfg(feature = "replay")]
@@ -54,6 +56,13 @@ pub const PARTS: &[Entry] = &[
     entry::<settings::SettingsPart>(),
     #[cfg(feature = "tracker")]
     entry::<tracker::TrackerPart>(),
+    #[cfg(feature = "tracker")]
+    entry::<guarantee::FarPart>(),
+    #[cfg(feature = "tracker")]
+    Entry {
+        brief: guarantee::near_ones_disturb,
+        ..entry::<guarantee::NearPart>()
+    },
 ];
 
 const fn entry<P: Part>() -> Entry {

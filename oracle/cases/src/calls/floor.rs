@@ -103,6 +103,27 @@ fn far_out(random: &mut Random) -> [f64; 3] {
     [limit * floats::unit(random), 0.0, 0.0]
 }
 
+/// A detection that is likely far from all tracks, or where `near`, likely not: nobody's place, or somebody's with a class of its own.
+pub fn one_more(
+    random: &mut Random,
+    beside: Option<&Position3DObservation>,
+    near: bool,
+) -> Position3DObservation {
+    let mut place = match random.below(3) {
+        0 => [0.0; 3].map(|_| floats::within(random, 1e6)),
+        _ => [0.0; 3].map(|_| floats::within(random, 300.0)),
+    };
+    let beside = beside.filter(|_| near || random.below(3) == 0);
+    if let Some(beside) = beside {
+        place = std::array::from_fn(|i| beside.position[i] + floats::within(random, 0.1));
+    }
+    let mut seen = moods::dressed(random, Mood::Everyday, place);
+    if beside.is_some() && !near {
+        seen.class_label = Some(ClassLabel::new(7));
+    }
+    seen
+}
+
 /// A place of few, whose offsets from one another have exact lengths, or lengths that are equal.
 fn on_a_grid(random: &mut Random) -> [f64; 3] {
     let step = |random: &mut Random| 0.25 * (random.below(7) as f64 - 3.0);

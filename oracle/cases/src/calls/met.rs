@@ -508,7 +508,7 @@ fn is_update_of(a: &factor_tracker_core::judge::report::Association, id: u64) ->
     a.outcome == ObservationOutcome::Updated && a.track_id == Some(id)
 }
 
-fn filter_of(track: &TrackState) -> Option<Filter> {
+pub(crate) fn filter_of(track: &TrackState) -> Option<Filter> {
     let number = |bits: &u64| f64::from_bits(*bits);
     let state: Vec<f64> = track.state.iter().map(number).collect();
     let covariance: Vec<f64> = track.covariance.iter().map(number).collect();
@@ -516,7 +516,7 @@ fn filter_of(track: &TrackState) -> Option<Filter> {
     Filter::new(std::array::from_fn(|i| state[i]), rows).ok()
 }
 
-fn plain(seen: &Position3DObservation) -> Detection {
+pub(crate) fn plain(seen: &Position3DObservation) -> Detection {
     Detection {
         position: std::array::from_fn(|i| seen.position[i]),
         covariance: std::array::from_fn(|i| std::array::from_fn(|j| seen.covariance[(i, j)])),
