@@ -1,4 +1,5 @@
-//! Writes what the gate's program replay reads, and what it must write: recorder FOLDER, for FOLDER/stdin and FOLDER/stdout.
+//! Writes what a program of the gate reads, and what it must write: recorder FOLDER, for FOLDER/stdin and FOLDER/stdout of replay;
+//! recorder --calls FOLDER for those of the program that replays sequences of calls on a tracker.
 
 mod detections;
 mod filters;
@@ -6,6 +7,7 @@ mod lines;
 mod lives;
 mod root;
 mod sensors;
+mod sequences;
 mod settings;
 mod tables;
 
@@ -23,19 +25,21 @@ struct Recording {
 
 fn main() -> ExitCode {
     let words: Vec<String> = std::env::args().skip(1).collect();
-    let [folder] = words.as_slice() else {
-        eprintln!("usage: oracle/record FOLDER");
-        return ExitCode::from(2);
-    };
     let mut recording = Recording::default();
-    root::record(&mut recording);
-    lives::record(&mut recording);
-    sensors::record(&mut recording);
-    settings::record(&mut recording);
-    filters::record(&mut recording);
-    tables::record(&mut recording);
-    lines::record(&mut recording);
-    detections::record(&mut recording);
+    let folder = match words.as_slice() {
+        [calls, folder] if calls == "--calls" => {
+            sequences::record(&mut recording);
+            folder
+        }
+        [folder] => {
+            parts(&mut recording);
+            folder
+        }
+        _ => {
+            eprintln!("usage: oracle/record [--calls] FOLDER");
+            return ExitCode::from(2);
+        }
+    };
     match write(&recording, Path::new(folder)) {
         Ok(()) => {
             let (calls, answers) = (recording.calls.len(), recording.answers.len());
@@ -47,6 +51,18 @@ fn main() -> ExitCode {
             ExitCode::FAILURE
         }
     }
+}
+
+/// All that replay runs.
+fn parts(recording: &mut Recording) {
+    root::record(recording);
+    lives::record(recording);
+    sensors::record(recording);
+    settings::record(recording);
+    filters::record(recording);
+    tables::record(recording);
+    lines::record(recording);
+    detections::record(recording);
 }
 
 fn write(recording: &Recording, folder: &Path) -> std::io::Result<()> {

@@ -1,5 +1,6 @@
-//! Calls of our program replay: the lines that it reads and writes, and how to run it.
+//! Calls of our programs that replay: the lines that they read and write, and how to run one.
 
+pub mod calls;
 pub mod detections;
 pub mod filters;
 mod line;

@@ -51,7 +51,7 @@ pub fn calls(random: &mut Random) -> CallsCase {
     let mut floor = Floor::new(random, mood);
     let count = match mood {
         Mood::Sensors => 40,
-        Mood::Crowded | Mood::Full | Mood::Neighbours => 2 + random.below(6),
+        Mood::Crowded | Mood::Full | Mood::Neighbours => 3 + random.below(5),
         _ => 1 + random.below(20),
     };
     let calls = (0..count).map(|_| floor.call(random)).collect();

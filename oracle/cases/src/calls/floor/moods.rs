@@ -224,7 +224,8 @@ pub fn at_the_gate(random: &mut Random) -> CallsCase {
         ..detection(place, spread(random, Mood::Everyday))
     };
     settings.gate_squared_mahalanobis = gate(random, rows, &second, huge);
-    let mut calls = vec![Call::ProcessBatch(alone(&settings, 1, first))];
+    let first = |sequence| Call::ProcessBatch(alone(&settings, sequence, first.clone()));
+    let mut calls = vec![first(1)];
     if random.below(2) == 0 {
         calls.push(Call::SetClassPrior {
             track: 1,
@@ -233,6 +234,7 @@ pub fn at_the_gate(random: &mut Random) -> CallsCase {
         });
     }
     calls.push(Call::ProcessBatch(alone(&settings, 2, second)));
+    calls.extend([Call::PredictTo(0), first(3), Call::PredictTo(100_000_000)]);
     CallsCase { settings, calls }
 }
 
