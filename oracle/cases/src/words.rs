@@ -115,27 +115,27 @@ fn smaller_words(word: &str) -> Vec<String> {
         return floats::smaller(x).into_iter().map(float).collect();
     }
     match word.parse::<i128>() {
-        Ok(whole) => {
-            let nearer = [0, whole / 2, whole - whole.signum()];
-            let mut found: Vec<i128> = nearer
-                .into_iter()
-                .filter(|n| n.abs() < whole.abs())
-                .collect();
-            found.dedup();
-            found.into_iter().map(|n| n.to_string()).collect()
-        }
+        // Nearer to zero by all of it, by half, by a quarter and so on down to one.
+        Ok(whole) => std::iter::successors(Some(whole), |step| Some(step / 2))
+            .take_while(|step| *step != 0)
+            .map(|step| (whole - step).to_string())
+            .collect(),
         Err(_) => Vec::new(),
     }
 }
 
-/// Shorter lists: without the later half, without the earlier half, without each item.
+/// Shorter lists: without each of its stretches, from halves down to single items.
 pub fn shorter<T: Clone>(list: &[T]) -> impl Iterator<Item = Vec<T>> + '_ {
-    let half = list.len() / 2;
-    let halves = [&list[..half], &list[half..]]
-        .into_iter()
-        .take(if half > 0 { 2 } else { 0 });
-    let each = (0..list.len()).map(|i| [&list[..i], &list[i + 1..]].concat());
-    halves.map(<[T]>::to_vec).chain(each)
+    let lengths = std::iter::successors(Some(list.len().div_ceil(2)), |length| {
+        (*length > 1).then(|| length / 2)
+    });
+    let lengths = lengths.filter(|length| *length > 0);
+    lengths.flat_map(move |length| {
+        (0..list.len()).step_by(length).map(move |from| {
+            let to = (from + length).min(list.len());
+            [&list[..from], &list[to..]].concat()
+        })
+    })
 }
 
 /// Where two lists of replies part.

@@ -1,5 +1,7 @@
 //! Runs of a part: fixed and random cases, one case alone, and the search for a smaller case that differs too.
 
+use std::time::{Duration, Instant};
+
 use inputs::Random;
 
 use crate::counts::Counts;
@@ -75,10 +77,16 @@ pub(crate) fn first_difference<P: Part>(
     None
 }
 
-/// Goes to a smaller case that differs for as long as there is one.
+/// How long a smaller case is looked for.
+const PATIENCE: Duration = Duration::from_secs(60);
+
+/// Goes to a smaller case that differs for as long as there is one, and patience lasts.
 pub(crate) fn smallest<P: Part>(mut case: P::Case) -> P::Case {
+    let began = Instant::now();
     loop {
-        let next = case.smaller().find(differs::<P>);
+        let mut smaller = case.smaller().take_while(|_| began.elapsed() < PATIENCE);
+        let next = smaller.find(differs::<P>);
+        drop(smaller);
         match next {
             Some(smaller) => case = smaller,
             None => return case,
