@@ -126,8 +126,12 @@ impl CallsCase {
 impl Case for CallsCase {
     type Reply = Vec<CallReply>;
 
+    /// The default settings.
     fn fixed() -> Vec<Self> {
-        Vec::new()
+        vec![CallsCase {
+            settings: Cartesian3DTrackerConfig::default(),
+            calls: Vec::new(),
+        }]
     }
 
     fn random(random: &mut Random) -> Self {

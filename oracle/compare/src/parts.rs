@@ -70,7 +70,7 @@ const fn entry<P: Part>() -> Entry {
         name: P::NAME,
         what: P::WHAT,
         random: |seed, count| trials::random::<P>(seed, count.unwrap_or(P::COUNT)),
-        brief: |seed| trials::random::<P>(seed, P::BRIEF),
+        brief: trials::brief::<P>,
         case: trials::case::<P>,
         first: |seed, count| trials::first::<P>(seed, count.unwrap_or(P::COUNT)),
     }

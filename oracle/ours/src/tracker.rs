@@ -294,14 +294,17 @@ pub fn replies(case: &CallsCase) -> Vec<CallReply> {
     std::iter::once(first).chain(calls).collect()
 }
 
+/// The first call. Our default settings must be the Rust's.
 fn made(tracker: &mut PkTracker, settings: &Cartesian3DTrackerConfig) -> CallReply {
     let (given, before) = (PkSettings::of(settings), *tracker);
+    let default = *settings == Cartesian3DTrackerConfig::default();
+    let agreed = !default || settings_default() == given;
     let (field, number) = (settings_check(given), tracker.renew(given));
     match number {
         0 => CallReply {
             answer: Answer::Done,
             state: told::state(tracker),
-            kept: field == 0 && *tracker == filled::fresh(given),
+            kept: agreed && field == 0 && *tracker == filled::fresh(given),
         },
         _ => CallReply {
             answer: Answer::BadField(field),
@@ -337,18 +340,5 @@ pub fn called(tracker: &mut PkTracker, call: &Call) -> CallReply {
             _ => Answer::Refused(number),
         },
         state: told::state(tracker),
-    }
-}
-
-#[cfg(test)]
-mod tests {
-    use super::*;
-
-    /// The defaults are the Rust's.
-    #[test]
-    fn defaults() {
-        let theirs = PkSettings::of(&Cartesian3DTrackerConfig::default());
-        assert_eq!(settings_default(), theirs);
-        assert_eq!(settings_check(theirs), 0);
     }
 }

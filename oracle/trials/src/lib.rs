@@ -7,7 +7,7 @@ mod run;
 
 pub use counts::Counts;
 pub use part::{Case, Part};
-pub use run::{case, first, random};
+pub use run::{brief, case, first, random};
 
 #[cfg(test)]
 mod tests;

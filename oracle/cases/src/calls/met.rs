@@ -122,7 +122,11 @@ pub const NAMES: &[&str] = &[
     "limit: 64 candidates",
     "limit: 32 sensors",
     "limit: 16 contributing sensors",
+    ALL,
 ];
+
+/// Every call is counted under it.
+const ALL: &str = "calls in all";
 
 /// The refusals of a batch by number and place, as the judge names it.
 const BATCH_REFUSALS: &[(u32, &str, &str)] = &[
@@ -186,12 +190,14 @@ pub struct Met<'a> {
 
 /// The first call of a sequence, with the bad field if there is one.
 pub fn made(bad: Option<u32>, counts: &mut Counts) {
+    counts.add(ALL);
     counts.add(NAMES[bad.unwrap_or(0) as usize]);
 }
 
 impl Met<'_> {
     /// A later call, and where it stopped if it was refused.
     pub fn called(&mut self, call: &Call, answer: &Answer, stopped_at: &str) {
+        self.counts.add(ALL);
         match (call, answer) {
             (Call::PredictTo(time), Answer::Done) => self.predicted(*time),
             (Call::PredictTo(_), Answer::Refused(number)) => self.counts.add(match number {
