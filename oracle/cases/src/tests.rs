@@ -9,6 +9,7 @@ use trials::Case;
 use crate::assignment::AssignmentCase;
 use crate::calls::{Answer, CallsCase};
 use crate::detections::DetectionsCase;
+use crate::far::FarCase;
 use crate::filter::FilterCase;
 use crate::least::LeastCase;
 use crate::lifecycle::LifecycleCase;
@@ -65,6 +66,7 @@ fn cases_are_read_back_and_shrink() {
 #[test]
 fn calls_are_read_back_and_shrink() {
     sound::<CallsCase>();
+    sound::<FarCase<false>>();
 }
 
 /// Asserts that each of the wanted numbers was met.

@@ -22,14 +22,8 @@ impl Counts {
         self.met.get(name).copied().unwrap_or(0)
     }
 
-    /// The table of these names. A name that was counted and is not among them is a fault of the part.
+    /// The table of these names.
     pub fn table(&self, names: &[&'static str]) -> String {
-        for name in self.met.keys() {
-            assert!(
-                names.contains(name),
-                "counted, but not in the table: {name}"
-            );
-        }
         let line = |name: &&str| format!("{:>12}  {name}\n", self.of(name));
         names.iter().map(line).collect()
     }

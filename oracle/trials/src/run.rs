@@ -8,25 +8,21 @@ use crate::counts::Counts;
 use crate::part::{Case, Part};
 use crate::progress::Progress;
 
-/// The fixed cases, then `count` random ones. Says what was found, and how often each thing was met; true if nothing differs.
+/// The fixed cases, then `count` random ones. Says how often each thing was met, and what was found; true if nothing differs.
 pub fn random<P: Part>(seed: u64, count: u64) -> bool {
-    let mut counts = Counts::default();
-    let agreed = run::<P>(seed, count, &mut counts);
-    if agreed {
-        print!("{}", counts.table(P::Case::COUNTED));
-    }
-    agreed
+    run::<P>(seed, count, P::Case::COUNTED)
 }
 
 /// A brief run of the same kind, without the table.
 pub fn brief<P: Part>(seed: u64) -> bool {
-    run::<P>(seed, P::BRIEF, &mut Counts::default())
+    run::<P>(seed, P::BRIEF, &[])
 }
 
-fn run<P: Part>(seed: u64, count: u64, counts: &mut Counts) -> bool {
-    let fixed = P::Case::fixed();
-    match first_difference::<P>(&fixed, seed, count, counts) {
+fn run<P: Part>(seed: u64, count: u64, shown: &[&'static str]) -> bool {
+    let (fixed, mut counts) = (P::Case::fixed(), Counts::default());
+    match first_difference::<P>(&fixed, seed, count, &mut counts) {
         None => {
+            print!("{}", counts.table(shown));
             println!(
                 "{}: {}: {} fixed and {count} random cases, seed {seed}: none differs",
                 P::NAME,

@@ -159,6 +159,7 @@ fn a_window_age_overflows() {
     tracker.predict_to(5).unwrap();
     assert_eq!(tracker.state().tracks.len(), 1);
     assert_eq!(refused(&mut tracker, &batch(1, 5, vec![])), 8);
+    assert_eq!(tracker.stopped_at(), "window age");
 }
 
 /// Settings with which every detection near a confirmed track is suppressed, and seen thrice begins one.
@@ -183,6 +184,32 @@ fn a_candidate_age_overflows() {
     let state = tracker.state();
     assert_eq!((state.tracks.len(), state.birth_candidates.len()), (0, 1));
     assert_eq!(refused(&mut tracker, &batch(2, 5, vec![])), 8);
+    assert_eq!(tracker.stopped_at(), "candidate age");
+}
+
+/// The Rust has the same words for both updates.
+#[test]
+fn which_update_stopped() {
+    let mut tracker = tracker(settings(|s| s.velocity_measurement_std = Some(1.0)));
+    let at_speed = |speed: f64| Position3DObservation {
+        velocity: Some(Vector2::new(speed, 0.0)),
+        ..at(0.0)
+    };
+    accepted(&mut tracker, &batch(0, 0, vec![at_speed(-f64::MAX)]));
+    assert_eq!(
+        refused(&mut tracker, &batch(1, 0, vec![at_speed(f64::MAX)])),
+        9
+    );
+    assert_eq!(tracker.stopped_at(), "velocity's Kalman update");
+    let mut wide = tracker_with_variance(1e308);
+    accepted(&mut wide, &batch(0, 0, vec![at(0.0)]));
+    assert_eq!(refused(&mut wide, &batch(1, 0, vec![moving(0.0)])), 9);
+    assert_eq!(wide.stopped_at(), "Kalman update");
+}
+
+/// Twice the variance is no number.
+fn tracker_with_variance(variance: f64) -> Tracker {
+    tracker(settings(|s| s.initial_velocity_variance = variance))
 }
 
 #[test]
