@@ -1,7 +1,7 @@
 //! A tracker and a sequence of calls on it; the reply has each call's answer and the whole state after it.
 
 pub(crate) mod floor;
-pub(crate) mod met;
+pub mod met;
 
 use std::fmt::Debug;
 

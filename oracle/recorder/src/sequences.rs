@@ -91,10 +91,9 @@ fn detections(case: &CallsCase) -> usize {
 
 #[cfg(test)]
 mod tests {
-    use super::*;
+    use cases::calls::met::VELOCITY_GAIN;
 
-    /// No run has met it: a gain that is not finite, from a covariance of the velocity that passes Cholesky.
-    const NOT_MET: &str = "batch: 9, velocity's gain";
+    use super::*;
 
     #[test]
     fn everything_is_met() {
@@ -107,7 +106,7 @@ mod tests {
         let settings = |name: &str| name.starts_with("new: field");
         let missing: Vec<_> = CallsCase::COUNTED
             .iter()
-            .filter(|name| counts.of(name) == 0 && !settings(name) && **name != NOT_MET)
+            .filter(|name| counts.of(name) == 0 && !settings(name) && **name != VELOCITY_GAIN)
             .collect();
         assert_eq!(missing, Vec::<&&str>::new());
     }

@@ -220,4 +220,11 @@ pub const CHANGES: &[Change] = changes! {
         => "(if ON { self.birth_candidates.remove(k) } else { self.birth_candidates.swap_remove(k) }).sightings";
     "sightings are not credited" in TRACKER:
         "if sightings > 1 {" => "if !ON && sightings > 1 {";
+    // What no sequence can tell, or hardly one.
+    "unseen: half of the squared time first" in MODELS:
+        "out[(pos, vel)] += q * dt2 / 2.0;" => "out[(pos, vel)] += if ON { q * (dt2 / 2.0) } else { q * dt2 / 2.0 };";
+    "unseen: a forbidden pair is less dear" in ASSIGNMENT:
+        "* 1.0e6 + 1.0e9" => "* (if ON { 1.0e3 } else { 1.0e6 }) + 1.0e9";
+    "unseen: groups are joined the other way" in ASSIGNMENT:
+        "if self.rank[ra] < self.rank[rb] {" => "if (self.rank[ra] < self.rank[rb]) != ON {";
 };

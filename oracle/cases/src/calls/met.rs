@@ -1,9 +1,9 @@
 //! What a sequence of calls meets of the specification: each refusal by its place, each branch, each limit. A run counts them.
 
-use factor_tracker_core::judge::detections::{verdict, Detection, Prior, Rule, Verdict};
+use factor_tracker_core::judge::detections::{distance, verdict, Detection, Prior, Rule, Verdict};
 use factor_tracker_core::judge::filter::Filter;
 use factor_tracker_core::judge::report::Report;
-use factor_tracker_core::judge::state::{TrackState, TrackerState};
+use factor_tracker_core::judge::state::{CandidateState, TrackState, TrackerState};
 use factor_tracker_core::tracker::{Cartesian3DTrackerConfig, ObservationOutcome};
 use factor_tracker_core::types::{
     ObservationBatch3D, Position3DObservation, TrackLifecycleState as Life,
@@ -65,7 +65,7 @@ pub const NAMES: &[&str] = &[
     "batch: 5, velocity's variance",
     "batch: 7, velocity's variance",
     "batch: 7, velocity's update",
-    "batch: 9, velocity's gain",
+    VELOCITY_GAIN,
     "batch: 9, velocity's update",
     "batch: 8, candidate age overflows",
     "batch: 11, a 65th candidate",
@@ -111,12 +111,15 @@ pub const NAMES: &[&str] = &[
     "birth: score below the threshold",
     "birth: score equal to the threshold",
     "birth: too near a confirmed track",
+    "birth: at the distance from a confirmed track",
     "birth: a candidate is left",
     "birth: a candidate is seen again",
     "birth: a candidate begins a track",
     "birth: its sightings confirm a track",
     "birth: a candidate is forgotten",
     "birth: a candidate's age equal to its timeout",
+    "birth: at the radius from a candidate",
+    "birth: two candidates equally near",
     "limit: 64 detections",
     "limit: 64 tracks",
     "limit: 64 candidates",
@@ -124,6 +127,9 @@ pub const NAMES: &[&str] = &[
     "limit: 16 contributing sensors",
     ALL,
 ];
+
+/// The gain comes from a covariance that the velocity's Cholesky has passed: no sequence is known in which it overflows.
+pub const VELOCITY_GAIN: &str = "batch: 9, velocity's gain (no sequence is known that meets it)";
 
 /// Every call is counted under it.
 const ALL: &str = "calls in all";
@@ -167,11 +173,7 @@ const BATCH_REFUSALS: &[(u32, &str, &str)] = &[
         "velocity's innovation covariance",
         "batch: 7, velocity's update",
     ),
-    (
-        9,
-        "velocity's innovation covariance",
-        "batch: 9, velocity's gain",
-    ),
+    (9, "velocity's innovation covariance", VELOCITY_GAIN),
     (9, "velocity's Kalman update", "batch: 9, velocity's update"),
     (8, "candidate age", "batch: 8, candidate age overflows"),
     (11, "candidates", "batch: 11, a 65th candidate"),
@@ -308,7 +310,7 @@ impl Met<'_> {
                     let born = track(self.after).expect("a track");
                     self.birth(seen, &born);
                 }
-                ObservationOutcome::Unmatched => self.alone(seen),
+                ObservationOutcome::Unmatched => self.alone(seen, batch.timestamp.as_nanos()),
             }
         }
         self.classes(batch);
@@ -370,6 +372,11 @@ impl Met<'_> {
         counts.add_if(not_a_number && threshold.is_some(), "birth: a score NaN");
         let equal = seen.score.is_some() && seen.score == threshold;
         counts.add_if(equal, "birth: score equal to the threshold");
+        let nearest = |track: &TrackState| distance(place(&track.state), place_of(seen));
+        let confirmed = |t: &&TrackState| t.id != born.id && t.lifecycle.state == Life::Confirmed;
+        let mut others = self.after.tracks.iter().filter(confirmed);
+        let at = others.any(|track| Some(nearest(track)) == self.settings.min_birth_distance_m);
+        counts.add_if(at, "birth: at the distance from a confirmed track");
         let credited = born.lifecycle.observation_times_count > 1;
         counts.add_if(credited, "birth: a candidate begins a track");
         let needed = self.settings.common.confirm_min_observation_times > 1;
@@ -380,13 +387,28 @@ impl Met<'_> {
         );
     }
 
-    fn alone(&mut self, seen: &Position3DObservation) {
+    fn alone(&mut self, seen: &Position3DObservation, now: i64) {
         let threshold = self.settings.common.new_track_score_threshold;
         let low = seen.score.zip(threshold).is_some_and(|(s, t)| s < t);
         self.counts.add(match low {
             true => "birth: score below the threshold",
             false => "birth: too near a confirmed track",
         });
+        let radius = self.settings.birth_candidate_radius_m;
+        let earlier = self.before.birth_candidates.iter();
+        let earlier = earlier.filter(|candidate| candidate.last_seen != now);
+        let far = |c: &CandidateState| distance(place(&c.position), place_of(seen));
+        let distances: Vec<f64> = earlier.map(far).collect();
+        self.counts.add_if(
+            distances.contains(&radius),
+            "birth: at the radius from a candidate",
+        );
+        let least = distances.iter().copied().fold(radius, f64::min);
+        let equal = distances.iter().filter(|d| **d == least).count() > 1;
+        self.counts.add_if(
+            least < radius && equal,
+            "birth: two candidates equally near",
+        );
     }
 
     fn classes(&mut self, batch: &ObservationBatch3D) {
@@ -512,6 +534,15 @@ impl Met<'_> {
 
 fn is_update_of(a: &factor_tracker_core::judge::report::Association, id: u64) -> bool {
     a.outcome == ObservationOutcome::Updated && a.track_id == Some(id)
+}
+
+/// The first three of some bits, as a place.
+fn place(bits: &[u64]) -> [f64; 3] {
+    std::array::from_fn(|i| f64::from_bits(bits[i]))
+}
+
+fn place_of(seen: &Position3DObservation) -> [f64; 3] {
+    std::array::from_fn(|i| seen.position[i])
 }
 
 pub(crate) fn filter_of(track: &TrackState) -> Option<Filter> {
