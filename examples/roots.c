@@ -1,4 +1,4 @@
-/* Prints a few square roots, and what is refused, through the C interface. */
+/* Prints a few square roots, and what is refused, through the C interface. ./demo compiles it to target/demo/roots. */
 #include <inttypes.h>
 #include <math.h>
 #include <stdio.h>
