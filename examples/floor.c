@@ -80,8 +80,8 @@ static bool process_twice(const struct sighting *seen, struct pk_report *report)
         return false;
     for (size_t i = 0; i < before.track_count; i++)
         story.differing += !same_in_both(before.tracks[i].id);
-    for (size_t i = 0; i < seen->real; i++) /* each real detection did the same in both, at the same cost */
-        story.differing += memcmp(&report->associations[i], &other.associations[i], sizeof other.associations[i]) != 0;
+    for (size_t i = 0; i < seen->real; i++) /* which track each real detection took or began, and at what cost */
+        story.astray += memcmp(&report->associations[i], &other.associations[i], sizeof other.associations[i]) != 0;
     story.standing += before.track_count;
     story.batches++;
     return true;
@@ -185,9 +185,9 @@ static bool print_tracks(void)
 
 static bool print_guarantee(void)
 {
-    printf("%zu batches, each with its clutter and without: %zu of %zu clutter detections far, %zu standing tracks compared, %zu differ in a bit\n",
-           story.batches, story.clutter_count - story.near_clutter, story.clutter_count, story.standing, story.differing);
-    return story.differing == 0 && story.near_clutter == 0;
+    printf("%zu batches with and without their clutter (%zu detections, %zu far): of %zu standing tracks %zu differ in a bit, of %zu real detections %zu in what they did\n",
+           story.batches, story.clutter_count, story.clutter_count - story.near_clutter, story.standing, story.differing, story.detection_count, story.astray);
+    return story.differing == 0 && story.astray == 0 && story.near_clutter == 0;
 }
 
 int main(int argc, char **argv)

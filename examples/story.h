@@ -25,7 +25,8 @@ struct story {
     struct place detections[STORY_DETECTIONS], clutter[STORY_DETECTIONS];
     size_t track_count, detection_count, clutter_count;
     size_t near_clutter;                 /* clutter that was not far from every track */
-    size_t batches, standing, differing; /* batches and standing tracks compared, and what differed */
+    size_t batches, standing, differing; /* batches and standing tracks compared, and tracks that differed */
+    size_t astray;                       /* real detections that did not do the same with clutter as without */
     unsigned swaps;
 };
 
