@@ -101,10 +101,6 @@ module _ (t : List (Option ℕ)) (x : ℕ) where
 -- ---- columns
 module _ (t : List (Option ℕ)) (n : ℕ) (low : (j i : ℕ) → getD t j none ≡ some i → i < n) (inj : (j k i : ℕ) → getD t j none ≡ some i → getD t k none ≡ some i → j ≡ k) where
   module _ (j : ℕ) where
-    pair-next : (k i : ℕ) (o : Option ℕ) → columnOf i 0 t ≡ o → times j (map columnIn (pairsFrom t i (suc k))) ≡ times j (map columnIn (pairAt i o (pairsFrom t (suc i) k)))
-    unfolding pairsFrom
-    pair-next k i o e = ap (λ (p : Option ℕ). times j (map columnIn (pairAt i p (pairsFrom t (suc i) k)))) e
-
     pairs-none : (k i : ℕ) → ((r : ℕ) → i ≤ r → columnOf r 0 t ≡ some j → ⊥) → times j (map columnIn (pairsFrom t i k)) ≡ 0
     unfolding times pairsFrom
     pairs-none zero i f = refl

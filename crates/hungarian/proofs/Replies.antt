@@ -8,12 +8,12 @@ use borrow.Author.Tests.{lt-leb, le-leb, eq-eqb, ne-eqb}
 use lib.Dec.{eqb, leb}
 use lib.ListN.{length}
 use lib.Ieee.{Float}
-use Rattle.number.specs.Reply.{Reply, refused, given, refuseUnless}
+use Rattle.number.specs.Reply.{Reply, refused, given, refuseUnless, leftIn}
 use Rattle.kuhn_munkres.specs.Binary64.{float}
 use Rattle.kuhn_munkres.specs.Square.{entry}
 use Rattle.kuhn_munkres.specs.Steps.{Search, found, stopped, spent, rows}
 use Rattle.hungarian.specs.Structs.{squareFrom}
-use Rattle.hungarian.specs.Ends.{matched, halts, loses, endOf, pickEnd, endReply, runReply, replyOfRun, leftIn, RunAnswer}
+use Rattle.hungarian.specs.Ends.{matched, halts, loses, endOf, pickEnd, endReply, runReply, replyOfRun, RunAnswer}
 use Rattle.hungarian.specs.declared.Shape.{Shape}
 use Rattle.hungarian.specs.declared.Run.{Run}
 use Rattle.hungarian.specs.declared.Run.the-variants.{Matched, TooMany, Failed}

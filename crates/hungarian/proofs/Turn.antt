@@ -8,7 +8,7 @@ use lib.ListN.{getD, set, length, length-set}
 use Rattle.kuhn_munkres.specs.Ops.{Ops}
 use Rattle.kuhn_munkres.specs.Steps.{State, scan, shiftAt, shift, mark, look, go-on, step}
 use Rattle.kuhn_munkres.proofs.Ranges.{shift-p}
-use Rattle.kuhn_munkres.proofs.Places.{scan-kept}
+use Rattle.kuhn_munkres.proofs.Places.{keep-length, scan-kept}
 use Rattle.hungarian.specs.Ends.{st}
 use Rattle.hungarian.specs.Passes.{Two, Least, Pots, relaxed, chosen, lowered, paid, two, pots}
 use Rattle.hungarian.proofs.Mask.{Outside, mask, mask-mark, scan-two, scan-least, shift-used, shift-delta, shift-paid, shift-lowered}
@@ -63,10 +63,6 @@ module _ {N : Type 0} (O : Ops N) (L : Outside O) (a : ℕ → ℕ → N) (n : �
   unfolding shift shiftAt
   shift-j1 s zero = refl
   shift-j1 s (suc k) = shift-j1 s k
-
-  keep-length : (b : Bool) (l : List N) (k : ℕ) (x : N) → length (cond b l (set l k x)) ≡ length l
-  keep-length true l k x = refl
-  keep-length false l k x = length-set l k x
 
   shift-long : (s : State N) (k : ℕ) → length ((shift O s k) .minv) ≡ length (s .minv)
   unfolding shift shiftAt

@@ -6,7 +6,7 @@ use Prim.Native.Nat.{ℕ, zero, suc, _+_, _*_}
 use lib.Dec.{eqb, leb}
 use lib.ListN.{length, replicate}
 use lib.Ieee.{Float}
-use Rattle.number.specs.Reply.{Reply, refused, given, refuseUnless}
+use Rattle.number.specs.Reply.{Reply, refused, given, refuseUnless, leftIn}
 use Rattle.kuhn_munkres.specs.Binary64.{float}
 use Rattle.kuhn_munkres.specs.Square.{entry}
 use Rattle.kuhn_munkres.specs.Steps.{State, Search, found, stopped, spent, rows}
@@ -80,11 +80,6 @@ abbrev pub replyOfRun : {A : Type 0} → Run → A → Reply A
 replyOfRun Matched a = given a
 replyOfRun TooMany a = refused 11
 replyOfRun Failed a = refused 10
-
--- 01: "A refusal answers its number and changes nothing lent or held."
-abbrev pub leftIn : {A : Type 0} → Reply A → A → A
-leftIn (refused n) before = before
-leftIn (given v) before = v
 
 pub record RunAnswer (costs : List Float) (q : Shape) (r : Run) (before after : List ℕ) : Type 0 where
   pub is : replyOfRun r after ≡ runReply costs q

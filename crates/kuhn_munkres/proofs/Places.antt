@@ -11,11 +11,7 @@ use lib.ListN.{getD, set, length, length-set}
 use lib.Seq.{getD-set-same, getD-set-other}
 use Rattle.kuhn_munkres.specs.Ops.{Ops}
 use Rattle.kuhn_munkres.specs.Steps.{State, relax, scan, shiftAt, shift}
-use Rattle.kuhn_munkres.proofs.Ranges.{shift-p}
-
-pub cond-all : {A : Type 0} (P : A → Type 0) (b : Bool) (x y : A) → P x → P y → P (cond b x y)
-cond-all P true x y p q = p
-cond-all P false x y p q = q
+use Rattle.kuhn_munkres.proofs.Ranges.{cond-all, shift-p}
 
 -- a list after a store that a test decides
 module _ {A : Type 0} (b : Bool) (l : List A) (c : ℕ) (x d : A) where
@@ -28,6 +24,10 @@ module _ {A : Type 0} (b : Bool) (l : List A) (c : ℕ) (x d : A) where
 put-same : {A : Type 0} (b : Bool) (l : List A) (c : ℕ) (x d : A) → c < length l → getD (cond b (set l c x) l) c d ≡ cond b x (getD l c d)
 put-same true l c x d h = getD-set-same l c x d h
 put-same false l c x d h = refl
+
+pub keep-length : {A : Type 0} (b : Bool) (l : List A) (c : ℕ) (x : A) → length (cond b l (set l c x)) ≡ length l
+keep-length true l c x = refl
+keep-length false l c x = length-set l c x
 
 keep-other : {A : Type 0} (b : Bool) (l : List A) (c : ℕ) (x d : A) (j : ℕ) → (j ≡ c → ⊥) → getD (cond b l (set l c x)) j d ≡ getD l j d
 keep-other true l c x d j h = refl
@@ -264,10 +264,6 @@ module _ {N : Type 0} (O : Ops N) where
           v-long = put-length on (t .v) k (O .sub (getD (t .v) k (O .out)) (t .delta)) (O .out) ∙ r .v-long;
           m-long = keep-length on (t .minv) k (O .sub (getD (t .minv) k (O .out)) (t .delta)) ∙ r .m-long;
         }
-      where
-        keep-length : (b : Bool) (l : List N) (c : ℕ) (x : N) → length (cond b l (set l c x)) ≡ length l
-        keep-length true l c x = refl
-        keep-length false l c x = length-set l c x
 
     pub shift-v-ahead : (k j : ℕ) → k ≤ j → getD ((shift O s k) .v) j (O .out) ≡ getD (s .v) j (O .out)
     unfolding shift shiftAt

@@ -13,6 +13,10 @@ use Rattle.kuhn_munkres.specs.Ranges.{Sane}
 use Rattle.kuhn_munkres.specs.Steps.{State, relax, scan, shiftAt, shift, mark, look, go-on, step, turned, search, Search, found, stopped, spent, ended, back, start, settle, fresh, enter, leave, rows}
 use Rattle.kuhn_munkres.proofs.Marks.{all-alike}
 
+pub cond-all : {A : Type 0} (P : A → Type 0) (b : Bool) (x y : A) → P x → P y → P (cond b x y)
+cond-all P true x y p q = p
+cond-all P false x y p q = q
+
 module _ {N : Type 0} (O : Ops N) where
   pub shift-p : (s : State N) (k : ℕ) → (shift O s k) .p ≡ s .p
   unfolding shift shiftAt
@@ -34,10 +38,6 @@ module _ {N : Type 0} (O : Ops N) where
   cond-le : (b : Bool) (x y n : ℕ) → x ≤ n → y ≤ n → cond b x y ≤ n
   cond-le true x y n p q = p
   cond-le false x y n p q = q
-
-  pub cond-all : {A : Type 0} (P : A → Type 0) (b : Bool) (x y : A) → P x → P y → P (cond b x y)
-  cond-all P true x y p q = p
-  cond-all P false x y p q = q
 
   pub relax-sane : (n j : ℕ) (cur : N) (s : State N) → j ≤ n → Sane n s → Sane n (relax O j cur s)
   unfolding relax
