@@ -89,8 +89,8 @@ passed s from r h e =
     let n : length (drop from s) ≡ length s - from = length-drop from s in
     record { past = omega arith; within = omega arith; left = ap (λ (k : ℕ). drop k s) e ∙ sym (drop-drop _ from s) ∙ word-left (drop from s) }
 
-pub never : {r : List ℕ} {X : Type 0} → none ≡ some r → X
-never {r} h = absurd (let z : _≡_ {A = ℕ} 0 1 = cc in omega arith)
+pub never : {X : Type 0} {x : X} {Y : Type 0} → none ≡ some x → Y
+never {X} {x} h = absurd (let z : _≡_ {A = ℕ} 0 1 = cc in omega arith)
 
 abbrev Shrinks : (List ℕ → Option (List ℕ)) → Type 0
 Shrinks p = (l r : List ℕ) → p l ≡ some r → Tail l r

@@ -14,7 +14,7 @@ use lib.Seq.{sets, drop-cons}
 use lib.Ieee.{Float}
 use Rattle.number.specs.Reply.{refused}
 use Rattle.kuhn_munkres.specs.Assignment.{inOne}
-use Rattle.forms.proofs.Shapes.{Tail, one, more, on, inner}
+use Rattle.forms.proofs.Shapes.{never, Tail, one, more, on, inner}
 use Rattle.request.specs.Listed.{after, told, bracketed}
 use Rattle.request.specs.Request.{argumentOf, begins, opening, Sizes, costed, columned, rowed, headOf, headAnswer, Request, closing, closed, tableOf, tabled, requestOf, even, shaped, Stored, storeOne, Filled, fillRow, rowsAnswer, TableRead, tableTold, rowOf}
 use Rattle.request.specs.Asking.{askedReply, replyOfAsked, over, noCosts, ReadingAnswer, AskedRead}
@@ -22,7 +22,7 @@ use Rattle.request.specs.declared.head.Head.the-variants.{Stated, NoHead
 use Rattle.request.specs.declared.table.Rows.the-variants.{Read, NoRows}
 use Rattle.request.specs.declared.Asked.{Asked}
 use Rattle.request.specs.declared.Asked.the-variants.{Table, NoRequest}
-use Rattle.request.proofs.Lists.{never, restOf, Leaves, Got, got, bracketed-leaves}
+use Rattle.request.proofs.Lists.{restOf, Leaves, Got, got, bracketed-leaves}
 use Rattle.request.proofs.Heads.{argument-leaves}
 use Rattle.request.proofs.Tables.{row-leaves}
 

@@ -10,12 +10,12 @@ use lib.IntN.{ℤ, pos, negsuc}
 use lib.ListN.{length, drop}
 use lib.Ieee.{Float, binary64, ofInt, neg}
 use Rattle.forms.specs.Shape.{pastWord}
-use Rattle.forms.proofs.Shapes.{Tail, one, more, on, past-tail}
+use Rattle.forms.proofs.Shapes.{never, Tail, one, more, on, past-tail}
 use Rattle.forms.specs.Decimal.{decimalOf}
 use Rattle.request.specs.Request.{wordOf, leaving, blank, argumentOf, begins, opening, numberedOf, headAnswer, costed, columned, rowed, headOf, Sizes}
 use Rattle.request.specs.declared.words.Numbered.the-variants.{Plus, Minus, NoNumber}
 use Rattle.request.specs.declared.head.Head.the-variants.{Stated, NoHead}
-use Rattle.request.proofs.Lists.{never, restOf, Leaves, Got, got}
+use Rattle.request.proofs.Lists.{restOf, Leaves, Got, got}
 use Rattle.request.proofs.Numbers.{neg-whole}
 
 -- ---- a number and its blank leave a tail

@@ -10,11 +10,8 @@ use borrow.Author.Tests.{eq-eqb, ne-eqb}
 use lib.Dec.{eqb}
 use lib.ListN.{length, drop, getD, length-drop, drop-of-length-le}
 use lib.Seq.{drop-cons}
-use Rattle.forms.proofs.Shapes.{Tail, one, more, on, shorter, placed, inner}
+use Rattle.forms.proofs.Shapes.{never, Tail, one, more, on, shorter, placed, inner}
 use Rattle.request.specs.Listed.{Reader, also, behind, upTo, listed, inside, bracketed, after, told}
-
-pub never : {X : Type 0} {x : X} {Y : Type 0} → none ≡ some x → Y
-never {X} {x} h = absurd (let z : _≡_ {A = ℕ} 0 1 = cc in omega arith)
 
 unfoldable pub restOf : {X : Type 0} → Option (X × List ℕ) → List ℕ
 restOf none = []

@@ -19,7 +19,7 @@ use Rattle.forms.specs.Decimal.{decimalOf, decimalReply}
 use Rattle.request.specs.Request.{wordOf, dash, leaving, costOf, costIn, entryOf, blank, argumentOf, begins, numberedOf, itemOf}
 use Rattle.request.specs.declared.words.Numbered.the-variants.{Plus, Minus, NoNumber}
 use Rattle.request.specs.declared.words.Item.the-variants.{Cost, NoItem}
-use Rattle.request.proofs.Lists.{never, restOf, place, Leaves, Got, got}
+use Rattle.request.proofs.Lists.{restOf, place, Leaves, Got, got}
 
 -- ---- a dash
 pub dash-one : (w : List ℕ) → length w ≡ 1 → eqb (getD w 0 0) 45 ≡ dash w

@@ -9,7 +9,7 @@ use lib.Dec.{eqb}
 use lib.ListN.{length, drop}
 use lib.Ieee.{Float}
 use Rattle.forms.specs.Shape.{pastWord}
-use Rattle.forms.proofs.Shapes.{Tail, one, more, past-tail}
+use Rattle.forms.proofs.Shapes.{never, Tail, one, more, past-tail}
 use Rattle.forms.specs.Decimal.{decimalOf}
 use Rattle.request.specs.Listed.{Reader, listed, bracketed, after, told}
 use Rattle.request.specs.Request.{wordOf, dash, leaving, costOf, costIn, entryOf, itemOf, rowOf, tableOf, Stored, storeOne, rowAnswer, RowRead, rowTold, Filled, fillFrom, fillRow, rowsAnswer, TableRead, tableTold}
@@ -18,7 +18,7 @@ use Rattle.request.specs.declared.table.Row.{Row}
 use Rattle.request.specs.declared.table.Row.the-variants.{Items, NoRow}
 use Rattle.request.specs.declared.table.Rows.{Rows}
 use Rattle.request.specs.declared.table.Rows.the-variants.{Read, NoRows}
-use Rattle.request.proofs.Lists.{never, restOf, Leaves, Got, got, bracketed-leaves}
+use Rattle.request.proofs.Lists.{restOf, Leaves, Got, got, bracketed-leaves}
 
 -- ---- an entry leaves what stands behind its word
 leaving-rest : {X : Type 0} (m r : List ℕ) (x : X) (o : Option X) → leaving m o ≡ some (x, r) → m ≡ r

@@ -12,9 +12,10 @@ use lib.ListN.{length, take, drop, getD, set, length-append, length-drop}
 use lib.Seq.{paste, paste-suc, paste-zero, length-paste, take-length, take-at, drop-drop, drop-append-add, take-suc, take-all}
 use Rattle.forms.specs.Bytes.{bytesOf}
 use Rattle.kuhn_munkres.specs.Assignment.{Pair, Pairs}
+use Rattle.lists.specs.Lay.{lay}
 use Rattle.lists.specs.Masks.{zipped}
 use Rattle.assignment.specs.Listing.{pairOf}
-use Rattle.text.specs.Text.{lay, Wrote, Put, digitsOf, itemText, listText, pairText, pairsText, unmatchedText, refusedText, answerText, roomed}
+use Rattle.text.specs.Text.{Wrote, Put, digitsOf, itemText, listText, pairText, pairsText, unmatchedText, refusedText, answerText, roomed}
 
 pub paste-more : (d : List ℕ) (at : ℕ) (s : List ℕ) (j : ℕ) → at + j < length d → j < length s → set (paste d at s j) (at + j) (getD s j 0) ≡ paste d at s (j + 1)
 paste-more d at s j h g = rw (add-one) (paste-suc d at s j 0 h g)

@@ -5,9 +5,10 @@ use mathlib.Core.Bool.{Bool, true, false, cond}
 use mathlib.Core.List.{List, [], _∷_, _++_}
 use Prim.Native.Nat.{ℕ, zero, suc, _+_, _/_, _%_}
 use lib.Dec.{ltb}
-use lib.ListN.{length, drop}
+use lib.ListN.{length}
 use Rattle.forms.specs.Bytes.{bytesOf}
 use Rattle.number.specs.Reply.{Reply, refused, given}
+use Rattle.lists.specs.Lay.{lay}
 use Rattle.kuhn_munkres.specs.Assignment.{Pair, Pairs}
 
 -- a number below 100, as every row, column and refusal is (laws: proofs/Digits here, proofs/Named in `line`)
@@ -52,10 +53,6 @@ textOf (given a) = answerText a
 -- t where there is room for n bytes: no answer has more than 1,024, and less room gets nothing
 unfoldable pub roomed : ℕ → List ℕ → List ℕ
 roomed n t = cond (ltb n 1024) [] t
-
--- t over the front of o
-unfoldable pub lay : List ℕ → List ℕ → List ℕ
-lay t o = t ++ drop (length t) o
 
 -- a buffer that held o holds t and what is left of o, and r is t's length
 pub record Wrote (t o : List ℕ) (r : ℕ) (o′ : List ℕ) : Type 0 where

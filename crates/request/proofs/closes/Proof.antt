@@ -14,7 +14,12 @@ shared-slice-read-if2 : tie.Need-shared-slice-read-if2
 shared-slice-read-if2 c = search needs
 
 returns-2 : tie.Need-returns-2
-returns-2 c = closing-byte (c .before .before .before .args .s .now) (c .before .before .before .args .at) (c .before .before .if1 .left) (c .if2 .taken)
+returns-2 c =
+    let at-if1 = c .before .before in
+    let start = at-if1 .before in
+    let s = start .args .s .now in
+    let at = start .args .at in
+    closing-byte s at (at-if1 .if1 .left) (c .if2 .taken)
 
 add-result : tie.Need-add-result
 add-result c = search needs
@@ -23,7 +28,13 @@ shared-slice-read-result : tie.Need-shared-slice-read-result
 shared-slice-read-result c = search needs
 
 returns-3 : tie.Need-returns-3
-returns-3 c = closing-last (c .before .before .before .before .args .s .now) (c .before .before .before .before .args .at) (c .before .before .before .if1 .left) (c .before .if2 .left)
+returns-3 c =
+    let at-if2 = c .before in
+    let at-if1 = at-if2 .before .before in
+    let start = at-if1 .before in
+    let s = start .args .s .now in
+    let at = start .args .at in
+    closing-last s at (at-if1 .if1 .left) (at-if2 .if2 .left)
 
 pub closes-spec : {M : Type 1} → statement M
 closes-spec = tie.close (tie.spec sub-if1 returns shared-slice-read-if2 returns-2 add-result shared-slice-read-result returns-3)

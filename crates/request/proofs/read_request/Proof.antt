@@ -14,7 +14,11 @@ enum-told-2 : tie.Need-enum-told-2
 enum-told-2 c = search needs
 
 returns : tie.Need-returns
-returns c = nothing-read (requestOf (c .before .before .before .before .before .args .s .now)) _ (c .enum-told .given .1) (c .before .before .ask .ensures .is)
+returns c =
+    let at-ask = c .before .before in
+    let start = at-ask .before .before .before in
+    let s = start .args .s .now in
+    nothing-read (requestOf s) _ (c .enum-told .given .1) (at-ask .ask .ensures .is)
 
 returns-2 : tie.Need-returns-2
 returns-2 c = all-read _ _ _ _ _ _ _ (c .enum-told2 .given .1) (c .before .before .ask .ensures)

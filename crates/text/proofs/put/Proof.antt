@@ -1,3 +1,4 @@
+-- The loop keeps that the first `i` bytes are pasted at `at`.
 use borrow.Author.Needs.{needs}
 use mathlib.Core.List.{List}
 use mathlib.Core.Path.{_≡_, refl, sym, ap, _∙_}
@@ -34,7 +35,17 @@ loop-less : tie.Need-loop-less Inv-loop μ-loop
 loop-less c = search needs
 
 loop-again : tie.Need-loop-again Inv-loop μ-loop
-loop-again c = (search needs, rw length-set (c .before .before .loop .inv .1), ap (λ (l : List ℕ). set l (c .before .before .before .args .at + c .before .before .loop .i) (getD (c .before .before .before .args .text .now) (c .before .before .loop .i) 0)) (c .before .before .loop .inv .2) ∙ paste-more (c .before .before .before .args .out .now) (c .before .before .before .args .at) (c .before .before .before .args .text .now) (c .before .before .loop .i) (search needs) (search needs))
+loop-again c =
+    let turn = c .before .before in
+    let start = turn .before in
+    let out = start .args .out .now in
+    let text = start .args .text .now in
+    let at = start .args .at in (
+      search needs,
+      rw length-set (turn .loop .inv .1),
+      ap (λ (l : List ℕ). set l (start .args .at + turn .loop .i) (getD text (turn .loop .i) 0))
+          (turn .loop .inv .2) ∙ paste-more out at text (turn .loop .i) (search needs) (search needs),
+    )
 
 add-result : tie.Need-add-result Inv-loop μ-loop
 add-result c = search needs
@@ -43,7 +54,14 @@ same-length : tie.Need-same-length Inv-loop μ-loop
 same-length c = c .before .loop .inv .1
 
 returns : tie.Need-returns Inv-loop μ-loop
-returns c = let e : c .before .loop .i ≡ length (c .before .before .args .text .now) = search needs in pasted (c .before .before .args .text .now) (c .before .before .args .at) (c .before .before .args .out .now) _ _ (c .before .before .pre) (ap (λ (k : ℕ). c .before .before .args .at + k) e) (c .before .loop .inv .2 ∙ ap (λ (k : ℕ). paste (c .before .before .args .out .now) (c .before .before .args .at) (c .before .before .args .text .now) k) e)
+returns c =
+    let turn = c .before in
+    let start = turn .before in
+    let out = start .args .out .now in
+    let text = start .args .text .now in
+    let at = start .args .at in
+    let e : turn .loop .i ≡ length text = search needs in
+    pasted text at out _ _ (start .pre) (ap (λ (k : ℕ). start .args .at + k) e) (turn .loop .inv .2 ∙ ap (λ (k : ℕ). paste out at text k) e)
 
 pub put-spec : {M : Type 1} → statement M
 put-spec = tie.close (tie.spec Inv-loop μ-loop loop-holds shared-slice-read-out add-out slice-write-out add-i loop-less loop-again add-result same-length returns)

@@ -1,3 +1,4 @@
+-- The parts are put one after the other, and chained by `put-then`.
 use borrow.Author.Needs.{needs}
 use native.Mathlib.Omega.{arith}
 use Rattle.assignment.specs.Listing.{pairsIn}
@@ -33,7 +34,16 @@ same-length : tie.Need-same-length
 same-length c = search needs
 
 returns : tie.Need-returns
-returns c = put-first (put-same (answer-is (pairsIn (c .before .before .before .before .before .before .before .before .before .before .before .before .before .before .before .before .before .before .before .before .before .before .args .a))) (put-then (put-then (c .before .before .before .before .before .before .before .before .before .before .before .before .before .before .put .ensures) (c .before .before .before .before .before .before .before .before .put-pairs .ensures .0)) (c .before .before .put-unmatched .ensures)))
+returns c =
+    let at-put-unmatched = c .before .before in
+    let at-put-pairs = at-put-unmatched .before .before .before .before .before .before in
+    let at-put = at-put-pairs .before .before .before .before .before .before in
+    let start = at-put .before .before .before .before .before .before .before .before in
+    let a = start .args .a in
+    put-first
+    (put-same (answer-is (pairsIn a)) (put-then (put-then (at-put .put .ensures) (at-put-pairs .put-pairs .ensures .0)) (at-put-unmatched .put-unmatched .ensures)))
 
 pub put-answer-spec : {M : Type 1} → statement M
-put-answer-spec = tie.close (tie.spec slice-aggregate-put put-requires slice-aggregate-put-pairs slice-aggregate-put-pairs-2 put-pairs-requires slice-aggregate-put-unmatched slice-aggregate-put-unmatched-2 put-unmatched-requires same-length returns)
+put-answer-spec =
+    tie.close (tie.spec slice-aggregate-put put-requires slice-aggregate-put-pairs slice-aggregate-put-pairs-2 put-pairs-requires slice-aggregate-put-unmatched
+    slice-aggregate-put-unmatched-2 put-unmatched-requires same-length returns)

@@ -1,3 +1,4 @@
+-- The loop keeps that the first `i` numbers are put, three bytes each at most.
 use borrow.Author.Needs.{needs}
 use mathlib.Core.Path.{_≡_, refl, ap, sym, _∙_}
 use Prim.Native.Nat.{_≤_, _+_, _*_, _-_}
@@ -22,13 +23,26 @@ unfolding listText
 loop-holds c = (omega arith, omega arith, refl, put-none (c .before .before .before .args .at) (c .before .before .before .args .out .now))
 
 mul-put-item : tie.Need-mul-put-item Inv-loop μ-loop
-mul-put-item c = omega (arith, c .before .before .before .few .ensures, c .before .loop-test .taken, c .before .before .before .before .before .before .pre .1)
+mul-put-item c =
+    let at-loop-test = c .before in
+    let at-few = at-loop-test .before .before in
+    let start = at-few .before .before .before in
+    omega (arith, at-few .few .ensures, at-loop-test .loop-test .taken, start .pre .1)
 
 shared-slice-read-put-item : tie.Need-shared-slice-read-put-item Inv-loop μ-loop
-shared-slice-read-put-item c = omega (arith, c .before .before .before .before .few .ensures, c .before .before .loop-test .taken, c .before .before .before .before .before .before .before .pre .1)
+shared-slice-read-put-item c =
+    let at-loop-test = c .before .before in
+    let at-few = at-loop-test .before .before in
+    let start = at-few .before .before .before in
+    omega (arith, at-few .few .ensures, at-loop-test .loop-test .taken, start .pre .1)
 
 put-item-requires : tie.Need-put-item-requires Inv-loop μ-loop
-put-item-requires c κs = omega (arith, c .before .before .before .before .few .ensures, c .before .before .loop-test .taken, c .before .before .before .before .before .before .before .pre .0, c .before .before .before .loop .inv .1, c .before .before .before .loop .inv .2)
+put-item-requires c κs =
+    let at-loop-test = c .before .before in
+    let turn = at-loop-test .before in
+    let at-few = turn .before in
+    let start = at-few .before .before .before in
+    omega (arith, at-few .few .ensures, at-loop-test .loop-test .taken, start .pre .0, turn .loop .inv .1, turn .loop .inv .2)
 
 add-i : tie.Need-add-i Inv-loop μ-loop
 add-i c = search needs
@@ -37,13 +51,39 @@ loop-less : tie.Need-loop-less Inv-loop μ-loop
 loop-less c = search needs
 
 loop-again : tie.Need-loop-again Inv-loop μ-loop
-loop-again c = (omega (arith, c .before .before .before .before .before .loop-test .taken), omega (arith, c .before .before .before .before .before .before .loop .inv .1, c .before .before .put-item .ensures .place, item-short (getD (c .before .before .before .before .before .before .before .before .before .before .args .list .now) (c .before .before .before .before .before .before .loop .i) 0)), c .before .before .put-item .ensures .long ∙ c .before .before .before .before .before .before .loop .inv .2, put-same (list-more (c .before .before .before .before .before .before .before .before .before .before .args .list .now) (c .before .before .before .before .before .before .loop .i) (omega (arith, c .before .before .before .before .before .before .before .few .ensures, c .before .before .before .before .before .loop-test .taken, c .before .before .before .before .before .before .before .before .before .before .pre .1))) (put-then (c .before .before .before .before .before .before .loop .inv .3) (c .before .before .put-item .ensures)))
+loop-again c =
+    let at-put-item = c .before .before in
+    let at-loop-test = at-put-item .before .before .before in
+    let turn = at-loop-test .before in
+    let at-few = turn .before in
+    let start = at-few .before .before .before in
+    let list = start .args .list .now in (
+      omega (arith, at-loop-test .loop-test .taken),
+      omega
+          (arith, turn .loop .inv .1, at-put-item .put-item .ensures .place, item-short (getD list (turn .loop .i) 0)),
+      at-put-item .put-item .ensures .long
+          ∙ turn .loop .inv .2,
+      put-same (list-more list (turn .loop .i) (omega (arith, at-few .few .ensures, at-loop-test .loop-test .taken, start .pre .1)))
+          (put-then (turn .loop .inv .3) (at-put-item .put-item .ensures)),
+    )
 
 same-length : tie.Need-same-length Inv-loop μ-loop
 same-length c = c .before .loop .inv .2
 
 returns : tie.Need-returns Inv-loop μ-loop
-returns c = (put-same (ap listText (take-few (c .before .before .before .before .before .args .list .now) (c .before .loop .i) (c .before .before .few .result) (c .before .before .before .before .before .args .count) (c .before .before .before .before .before .pre .1) (c .before .before .few .ensures) (c .before .loop .inv .0) (c .loop-test .left))) (c .before .loop .inv .3), omega (arith, c .before .loop .inv .0, c .before .loop .inv .1, c .before .before .few .ensures))
+returns c =
+    let turn = c .before in
+    let at-few = turn .before in
+    let start = at-few .before .before .before in
+    let list = start .args .list .now in
+    let count = start .args .count in (
+      put-same
+          (ap listText (take-few list (turn .loop .i) (at-few .few .result) count (start .pre .1) (at-few .few .ensures) (turn .loop .inv .0) (c .loop-test .left)))
+          (turn .loop .inv .3),
+      omega (arith, turn .loop .inv .0, turn .loop .inv .1, at-few .few .ensures),
+    )
 
 pub put-list-spec : {M : Type 1} → statement M
-put-list-spec = tie.close (tie.spec Inv-loop μ-loop few-requires loop-holds mul-put-item shared-slice-read-put-item put-item-requires add-i loop-less loop-again same-length returns)
+put-list-spec =
+    tie.close (tie.spec Inv-loop μ-loop few-requires loop-holds mul-put-item shared-slice-read-put-item put-item-requires add-i loop-less loop-again same-length
+    returns)

@@ -1,3 +1,4 @@
+-- The five parts are put one after the other, and chained by `put-then`.
 use borrow.Author.Needs.{needs}
 use native.Mathlib.Omega.{arith}
 use Rattle.text.proofs.Texts.{put-same, put-then, unmatched-is}
@@ -32,7 +33,17 @@ same-length : tie.Need-same-length
 same-length c = search needs
 
 returns : tie.Need-returns
-returns c = put-same (unmatched-is _ _) (put-then (put-then (put-then (put-then (c .before .before .before .before .before .before .before .before .before .before .before .before .before .before .before .before .before .before .before .before .put .ensures) (c .before .before .before .before .before .before .before .before .before .before .before .before .before .before .before .before .put-list .ensures .0)) (c .before .before .before .before .before .before .before .before .before .before .before .put2 .ensures)) (c .before .before .before .before .before .before .before .put-list2 .ensures .0)) (c .before .before .put3 .ensures))
+returns c =
+    let at-put3 = c .before .before in
+    let at-put-list2 = at-put3 .before .before .before .before .before in
+    let at-put2 = at-put-list2 .before .before .before .before in
+    let at-put-list = at-put2 .before .before .before .before .before in
+    let at-put = at-put-list .before .before .before .before in
+    put-same (unmatched-is _ _) (put-then
+    (put-then (put-then (put-then (at-put .put .ensures) (at-put-list .put-list .ensures .0)) (at-put2 .put2 .ensures)) (at-put-list2 .put-list2 .ensures .0))
+    (at-put3 .put3 .ensures))
 
 pub put-unmatched-spec : {M : Type 1} → statement M
-put-unmatched-spec = tie.close (tie.spec slice-aggregate-put put-requires put-list-requires slice-aggregate-put-2 put-requires-2 put-list-requires-2 slice-aggregate-put-3 put-requires-3 same-length returns)
+put-unmatched-spec =
+    tie.close (tie.spec slice-aggregate-put put-requires put-list-requires slice-aggregate-put-2 put-requires-2 put-list-requires-2 slice-aggregate-put-3
+    put-requires-3 same-length returns)

@@ -46,7 +46,8 @@ returns-2 c =
     let at-if1 = at-if2 .before .before in
     let start = at-if1 .before .before in
     let w = start .args .w .now in
-    facts.minus-zero (naturalOf (drop 1 w)) (at-n .n .given .0 .0) (c .if3 .taken) (facts.counts (naturalOf (drop 1 w)) _ (sym (ap replyOfNatural (at-n .n .given .1)) ∙ said at-count))
+    facts.minus-zero (naturalOf (drop 1 w)) (at-n .n .given .0 .0) (c .if3 .taken)
+    (facts.counts (naturalOf (drop 1 w)) _ (sym (ap replyOfNatural (at-n .n .given .1)) ∙ said at-count))
     ∙ ap decimalReply (sym (facts.signed w (at-if1 .if1 .left) (at-if2 .if2 .taken)))
 
 count-requires-2 : tie.Need-count-requires-2
@@ -76,7 +77,8 @@ returns-4 c =
     let at-if1 = at-if2 .before .before in
     let start = at-if1 .before .before in
     let w = start .args .w .now in
-    facts.minus-some (naturalOf (drop 1 w)) (at-n .n .given .0 .0) (c .if3 .left) (facts.counts (naturalOf (drop 1 w)) _ (sym (ap replyOfNatural (at-n .n .given .1)) ∙ said at-count))
+    facts.minus-some (naturalOf (drop 1 w)) (at-n .n .given .0 .0) (c .if3 .left)
+    (facts.counts (naturalOf (drop 1 w)) _ (sym (ap replyOfNatural (at-n .n .given .1)) ∙ said at-count))
     ∙ ap decimalReply (sym (facts.signed w (at-if1 .if1 .left) (at-if2 .if2 .taken)))
 
 returns-5 : tie.Need-returns-5

@@ -53,7 +53,8 @@ returns-3 c =
     let turn = at-wide .before .before .before .before .before in
     let start = turn .before .before in
     let w = start .args .w .now in
-    let e : at-wide .wide .result ≡ getD w (turn .loop .i) 0 - 48 = at-wide .wide .ensures in ap naturalReply (sym (facts.too-large w (turn .loop .i) (turn .loop .v) (search needs) (search needs) (search needs) (omega arith)) ∙ turn .loop .inv .1 .1)
+    let e : at-wide .wide .result ≡ getD w (turn .loop .i) 0 - 48 = at-wide .wide .ensures in
+    ap naturalReply (sym (facts.too-large w (turn .loop .i) (turn .loop .v) (search needs) (search needs) (search needs) (omega arith)) ∙ turn .loop .inv .1 .1)
 
 add-i : tie.Need-add-i Inv-loop μ-loop
 add-i c = search needs
@@ -66,8 +67,14 @@ loop-again c =
     let at-wide = c .before in
     let turn = at-wide .before .before .before .before .before in
     let start = turn .before .before in
-    let w = start .args .w .now in
-    (search needs, (search needs, rw (at-wide .wide .ensures) (ap limited (sym (facts.step w (turn .loop .i) (turn .loop .v) (search needs) (search needs) (search needs))) ∙ turn .loop .inv .1 .1)))
+    let w = start .args .w .now in (
+      search needs,
+      (
+        search needs,
+        rw (at-wide .wide .ensures)
+            (ap limited (sym (facts.step w (turn .loop .i) (turn .loop .v) (search needs) (search needs) (search needs))) ∙ turn .loop .inv .1 .1),
+      ),
+    )
 
 returns-4 : tie.Need-returns-4 Inv-loop μ-loop
 returns-4 c =

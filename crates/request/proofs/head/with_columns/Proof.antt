@@ -1,3 +1,4 @@
+-- The columns are read, and the rest is `with_cost`; each branch is one equation of `columned`.
 use borrow.Author.Needs.{needs}
 use mathlib.Core.Path.{ap, sym, _∙_}
 use lib.IntN.{pos}
@@ -7,8 +8,16 @@ use Rattle.request.proofs.Heads.{columns-none, columns-minus, columns-p
 use Rattle.request.proofs.head.with_columns.Statement.{statement}
 use Rattle.request.proofs.head.with_columns.Tie as tie
 
-found : (c : tie.After-n) → Got argumentOf (c .before .before .before .before .args .s .now) (c .before .before .before .before .args .at) (pos (c .n .given .0 .0)) (c .n .given .0 .1 .0)
-found c = plus-got (c .before .before .before .before .args .s .now) (c .before .before .before .before .args .at) (c .n .given .0 .0) (c .n .given .0 .1 .0) (sym (c .n .given .1) ∙ c .before .before .argument .ensures)
+found :
+    (c : tie.After-n) →
+    Got argumentOf (c .before .before .before .before .args .s .now) (c .before .before .before .before .args .at) (pos (c .n .given .0 .0))
+    (c .n .given .0 .1 .0)
+found c =
+    let at-argument = c .before .before in
+    let start = at-argument .before .before in
+    let s = start .args .s .now in
+    let at = start .args .at in
+    plus-got s at (c .n .given .0 .0) (c .n .given .0 .1 .0) (sym (c .n .given .1) ∙ at-argument .argument .ensures)
 
 argument-requires : tie.Need-argument-requires
 argument-requires c κs = search needs
@@ -26,13 +35,29 @@ with-cost-requires : tie.Need-with-cost-requires
 with-cost-requires c κs = found ((c .before)) .within
 
 returns : tie.Need-returns
-returns c = columns-none (c .before .before .before .before .args .s .now) (c .before .before .before .before .args .rows) _ (sym (c .enum-told .given .1) ∙ c .before .before .argument .ensures)
+returns c =
+    let at-argument = c .before .before in
+    let start = at-argument .before .before in
+    let s = start .args .s .now in
+    let rows = start .args .rows in
+    columns-none s rows _ (sym (c .enum-told .given .1) ∙ at-argument .argument .ensures)
 
 returns-2 : tie.Need-returns-2
-returns-2 c = columns-minus (c .before .before .before .before .args .s .now) (c .before .before .before .before .args .rows) _ (c .enum-told2 .given .0 .0) (c .enum-told2 .given .0 .1 .0) (sym (c .enum-told2 .given .1) ∙ c .before .before .argument .ensures)
+returns-2 c =
+    let at-argument = c .before .before in
+    let start = at-argument .before .before in
+    let s = start .args .s .now in
+    let rows = start .args .rows in
+    columns-minus s rows _ (c .enum-told2 .given .0 .0) (c .enum-told2 .given .0 .1 .0) (sym (c .enum-told2 .given .1) ∙ at-argument .argument .ensures)
 
 returns-3 : tie.Need-returns-3
-returns-3 c = c .with-cost .ensures ∙ ap (headAnswer (c .before .before .before .before .before .before .args .s .now)) (sym (columns-plus (c .before .before .before .before .before .before .args .s .now) (c .before .before .before .before .before .before .args .rows) (c .before .before .before .before .before .before .args .at) (c .before .before .n .given .0 .0) (c .before .before .n .given .0 .1 .0) (found ((c .before .before)))))
+returns-3 c =
+    let at-n = c .before .before in
+    let start = at-n .before .before .before .before in
+    let s = start .args .s .now in
+    let at = start .args .at in
+    let rows = start .args .rows in
+    c .with-cost .ensures ∙ ap (headAnswer s) (sym (columns-plus s rows at (at-n .n .given .0 .0) (at-n .n .given .0 .1 .0) (found at-n)))
 
 pub with-columns-spec : {M : Type 1} → statement M
 with-columns-spec = tie.close (tie.spec argument-requires enum-told enum-told-2 enum-known-n with-cost-requires returns returns-2 returns-3)

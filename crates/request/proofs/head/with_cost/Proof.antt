@@ -1,3 +1,4 @@
+-- The row cost is read; each branch is one equation of `costed`.
 use borrow.Author.Needs.{needs}
 use mathlib.Core.Path.{sym, _∙_}
 use Rattle.request.proofs.Heads.{cost-none, cost-plus, cost-minus}
@@ -23,13 +24,33 @@ int-to-float-t12 : tie.Need-int-to-float-t12
 int-to-float-t12 c = search needs
 
 returns : tie.Need-returns
-returns c = cost-none (c .before .before .before .before .args .s .now) (c .before .before .before .before .args .rows) (c .before .before .before .before .args .columns) _ (sym (c .enum-told .given .1) ∙ c .before .before .argument .ensures)
+returns c =
+    let at-argument = c .before .before in
+    let start = at-argument .before .before in
+    let s = start .args .s .now in
+    let columns = start .args .columns in
+    let rows = start .args .rows in
+    cost-none s rows columns _ (sym (c .enum-told .given .1) ∙ at-argument .argument .ensures)
 
 returns-2 : tie.Need-returns-2
-returns-2 c = cost-plus (c .before .before .before .before .before .before .args .s .now) (c .before .before .before .before .before .before .args .rows) (c .before .before .before .before .before .before .args .columns) _ (c .before .before .n .given .0 .0) (c .before .before .n .given .0 .1 .0) (sym (c .before .before .n .given .1) ∙ c .before .before .before .before .argument .ensures)
+returns-2 c =
+    let at-n = c .before .before in
+    let at-argument = at-n .before .before in
+    let start = at-argument .before .before in
+    let s = start .args .s .now in
+    let columns = start .args .columns in
+    let rows = start .args .rows in
+    cost-plus s rows columns _ (at-n .n .given .0 .0) (at-n .n .given .0 .1 .0) (sym (at-n .n .given .1) ∙ at-argument .argument .ensures)
 
 returns-3 : tie.Need-returns-3
-returns-3 c = cost-minus (c .before .before .before .before .before .before .args .s .now) (c .before .before .before .before .before .before .args .rows) (c .before .before .before .before .before .before .args .columns) _ (c .before .before .n2 .given .0 .0) (c .before .before .n2 .given .0 .1 .0) (sym (c .before .before .n2 .given .1) ∙ c .before .before .before .before .argument .ensures)
+returns-3 c =
+    let at-n2 = c .before .before in
+    let at-argument = at-n2 .before .before in
+    let start = at-argument .before .before in
+    let s = start .args .s .now in
+    let columns = start .args .columns in
+    let rows = start .args .rows in
+    cost-minus s rows columns _ (at-n2 .n2 .given .0 .0) (at-n2 .n2 .given .0 .1 .0) (sym (at-n2 .n2 .given .1) ∙ at-argument .argument .ensures)
 
 pub with-cost-spec : {M : Type 1} → statement M
 with-cost-spec = tie.close (tie.spec argument-requires enum-told enum-known-n int-to-float-t11 enum-known-n-2 int-to-float-t12 returns returns-2 returns-3)

@@ -1,3 +1,4 @@
+-- The loop keeps that what is told of the rows from `i` on, on top of those stored so far, is what is told of the whole table (`walk-…` in Lists has a law for each way out).
 use borrow.Author.Needs.{needs}
 use mathlib.Core.Path.{_≡_, refl, ap, sym, _∙_}
 use mathlib.Core.Bool.{_&&_}
@@ -16,13 +17,24 @@ use Rattle.request.proofs.table.read_rows.Tie as tie
 
 abbrev Inv-loop : tie.InvT-loop
 Inv-loop s from columns costs₀ i₀ n₀ k₀ same₀ costs i n k same =
-    (i ≤ length s) × (k ≤ i) × (n ≤ i) × (length costs ≡ 4096) × (told (fillRow columns) (record { rows = n; same = same; next = k; costs = costs }) s (listed rowOf (drop i s)) ≡ tableTold columns costs₀ s (listed rowOf (drop from s)))
+    (i ≤ length s) × (k ≤ i) × (n ≤ i) × (length costs ≡ 4096) ×
+    (told (fillRow columns) (record { rows = n; same = same; next = k; costs = costs }) s (listed rowOf (drop i s)) ≡ tableTold columns costs₀ s (listed rowOf (drop from s)))
 
 abbrev μ-loop : tie.MeasureT-loop
 μ-loop s from columns costs₀ i₀ n₀ k₀ same₀ costs i n k same = length s - i
 
-found : (c : tie.After-m Inv-loop μ-loop) → RowGot (c .before .before .before .before .before .before .args .s .now) (c .before .before .before .before .loop .i) (c .before .before .before .before .loop .k) (c .before .before .before .before .loop .costs) (c .m .given .0 .0) (c .m .given .0 .1 .0) (c .before .before .read-row .last .1 .1 .0)
-found c = row-got (c .before .before .before .before .before .before .args .s .now) (c .before .before .before .before .loop .i) (c .before .before .before .before .loop .k) (c .before .before .before .before .loop .costs) (c .m .given .0 .0) (c .m .given .0 .1 .0) (c .before .before .read-row .last .1 .1 .0) (rw (c .m .given .1) at (c .before .before .read-row .ensures))
+found :
+    (c : tie.After-m Inv-loop μ-loop) →
+    RowGot (c .before .before .before .before .before .before .args .s .now) (c .before .before .before .before .loop .i)
+    (c .before .before .before .before .loop .k) (c .before .before .before .before .loop .costs) (c .m .given .0 .0) (c .m .given .0 .1 .0)
+    (c .before .before .read-row .last .1 .1 .0)
+found c =
+    let at-read-row = c .before .before in
+    let turn = at-read-row .before .before in
+    let start = turn .before .before in
+    let s = start .args .s .now in
+    row-got s (turn .loop .i) (turn .loop .k) (turn .loop .costs) (c .m .given .0 .0) (c .m .given .0 .1 .0) (at-read-row .read-row .last .1 .1 .0)
+    (rw (c .m .given .1) at (at-read-row .read-row .ensures))
 
 short : (c : tie.After-m Inv-loop μ-loop) → c .before .before .before .before .loop .i + c .m .given .0 .0 ≤ c .m .given .0 .1 .0
 short c = c .before .before .read-row .ensures .short (c .m .given .0 .0) (c .m .given .0 .1 .0) (c .m .given .1)
@@ -37,16 +49,37 @@ enum-told : tie.Need-enum-told Inv-loop μ-loop
 enum-told c = search needs
 
 returns : tie.Need-returns Inv-loop μ-loop
-returns c = table-refused _ _ (sym (c .before .before .before .before .loop .inv .4) ∙ walk-refused (fillRow (c .before .before .before .before .before .before .args .columns)) rowOf row-leaves (c .before .before .before .before .before .before .args .s .now) (c .before .before .before .before .loop .i) (record { rows = c .before .before .before .before .loop .n; same = c .before .before .before .before .loop .same; next = c .before .before .before .before .loop .k; costs = c .before .before .before .before .loop .costs }) (no-row (c .before .before .before .before .before .before .args .s .now) (c .before .before .before .before .loop .i) (c .before .before .before .before .loop .k) (c .before .before .before .before .loop .costs) (sym (c .enum-told .given .1) ∙ c .before .before .read-row .ensures .is))) (c .before .before .read-row .ensures .long)
+returns c =
+    let at-read-row = c .before .before in
+    let turn = at-read-row .before .before in
+    let start = turn .before .before in
+    let s = start .args .s .now in
+    let columns = start .args .columns in
+    table-refused _ _ (sym (turn .loop .inv .4) ∙ walk-refused (fillRow columns) rowOf row-leaves s (turn .loop .i)
+    (record { rows = turn .loop .n; same = turn .loop .same; next = turn .loop .k; costs = turn .loop .costs })
+    (no-row s (turn .loop .i) (turn .loop .k) (turn .loop .costs) (sym (c .enum-told .given .1) ∙ at-read-row .read-row .ensures .is)))
+    (at-read-row .read-row .ensures .long)
 
 enum-known-m : tie.Need-enum-known-m Inv-loop μ-loop
 enum-known-m c = search needs
 
 returns-2 : tie.Need-returns-2 Inv-loop μ-loop
-returns-2 c = let g = found ((c .before .before)) in table-refused _ _ (sym (c .before .before .before .before .before .before .loop .inv .4) ∙ walk-ends (fillRow (c .before .before .before .before .before .before .before .before .args .columns)) rowOf row-leaves (c .before .before .before .before .before .before .before .before .args .s .now) (c .before .before .before .before .before .before .loop .i) (record { rows = c .before .before .before .before .before .before .loop .n; same = c .before .before .before .before .before .before .loop .same; next = c .before .before .before .before .before .before .loop .k; costs = c .before .before .before .before .before .before .loop .costs }) (g .row) (c .before .before .m .given .0 .1 .0) (g .stands) (c .if1 .taken)) (c .before .before .before .before .read-row .ensures .long)
+returns-2 c =
+    let at-place = c .before .before in
+    let at-read-row = at-place .before .before in
+    let turn = at-read-row .before .before in
+    let start = turn .before .before in
+    let s = start .args .s .now in
+    let columns = start .args .columns in
+    let g = found at-place in
+    table-refused _ _ (sym (turn .loop .inv .4) ∙ walk-ends (fillRow columns) rowOf row-leaves s (turn .loop .i)
+    (record { rows = turn .loop .n; same = turn .loop .same; next = turn .loop .k; costs = turn .loop .costs }) (g .row) (at-place .m .given .0 .1 .0)
+    (g .stands) (c .if1 .taken)) (at-read-row .read-row .ensures .long)
 
 add-n : tie.Need-add-n Inv-loop μ-loop
-add-n c = omega (arith, c .before .before .before .before .before .before .loop .inv .0, c .before .before .before .before .before .before .loop .inv .2)
+add-n c =
+    let turn = c .before .before .before .before .before .before in
+    omega (arith, turn .loop .inv .0, turn .loop .inv .2)
 
 add-k : tie.Need-add-k Inv-loop μ-loop
 add-k c = omega (arith, c .before .before .before .before .before .before .loop .inv .1, short ((c .before .before)), c .if1 .left)
@@ -58,19 +91,73 @@ add-t18 : tie.Need-add-t18 Inv-loop μ-loop
 add-t18 c = search needs
 
 returns-3 : tie.Need-returns-3 Inv-loop μ-loop
-returns-3 c = let g = found ((c .before .before .before .before)) in let a : Filled = record { rows = c .before .before .before .before .before .before .before .before .loop .n; same = c .before .before .before .before .before .before .before .before .loop .same; next = c .before .before .before .before .before .before .before .before .loop .k; costs = c .before .before .before .before .before .before .before .before .loop .costs } in table-read _ _ (record { rows = c .before .before .before .before .before .before .before .before .loop .n + 1; same = c .before .before .before .before .before .before .before .before .loop .same && eqb (c .before .before .before .before .m .given .0 .0) (c .before .before .before .before .before .before .before .before .before .before .args .columns); next = c .before .before .before .before .before .before .before .before .loop .k + c .before .before .before .before .m .given .0 .0; costs = c .before .before .before .before .before .before .read-row .last .1 .1 .0 }) (c .before .before .before .before .m .given .0 .1 .0 + 1) (sym (c .before .before .before .before .before .before .before .before .loop .inv .4) ∙ walk-closed (fillRow (c .before .before .before .before .before .before .before .before .before .before .args .columns)) rowOf row-leaves (c .before .before .before .before .before .before .before .before .before .before .args .s .now) (c .before .before .before .before .before .before .before .before .loop .i) a (g .row) (c .before .before .before .before .m .given .0 .1 .0) (g .stands) (search needs) (c .if2 .taken) ∙ ap (λ (f : Filled). some (f, c .before .before .before .before .m .given .0 .1 .0 + 1)) (fill-is (c .before .before .before .before .before .before .before .before .before .before .args .s .now) (c .before .before .before .before .before .before .before .before .loop .i) (c .before .before .before .before .before .before .before .before .before .before .args .columns) a (c .before .before .before .before .m .given .0 .0) (c .before .before .before .before .m .given .0 .1 .0) (c .before .before .before .before .before .before .read-row .last .1 .1 .0) g)) refl (c .before .before .before .before .before .before .read-row .ensures .long)
+returns-3 c =
+    let at-place = c .before .before .before .before in
+    let at-read-row = at-place .before .before in
+    let turn = at-read-row .before .before in
+    let start = turn .before .before in
+    let s = start .args .s .now in
+    let columns = start .args .columns in
+    let g = found at-place in
+    let a : Filled = record { rows = turn .loop .n; same = turn .loop .same; next = turn .loop .k; costs = turn .loop .costs } in
+    table-read _ _ (record {
+      rows = turn .loop .n + 1;
+      same = turn .loop .same && eqb
+          (at-place .m .given .0 .0) columns;
+      next = turn .loop .k + at-place .m .given .0 .0;
+      costs = at-read-row .read-row .last .1 .1 .0;
+    })
+    (at-place .m .given .0 .1 .0 + 1) (sym (turn .loop .inv .4) ∙ walk-closed (fillRow columns) rowOf row-leaves s (turn .loop .i) a (g .row)
+    (at-place .m .given .0 .1 .0) (g .stands) (search needs) (c .if2 .taken) ∙ ap (λ (f : Filled). some (f, at-place .m .given .0 .1 .0 + 1)) (fill-is s
+    (turn .loop .i) columns a (at-place .m .given .0 .0) (at-place .m .given .0 .1 .0) (at-read-row .read-row .last .1 .1 .0) g)) refl
+    (at-read-row .read-row .ensures .long)
 
 returns-4 : tie.Need-returns-4 Inv-loop μ-loop
-returns-4 c = let g = found ((c .before .before .before .before .before)) in table-refused _ _ (sym (c .before .before .before .before .before .before .before .before .before .loop .inv .4) ∙ walk-other (fillRow (c .before .before .before .before .before .before .before .before .before .before .before .args .columns)) rowOf row-leaves (c .before .before .before .before .before .before .before .before .before .before .before .args .s .now) (c .before .before .before .before .before .before .before .before .before .loop .i) (record { rows = c .before .before .before .before .before .before .before .before .before .loop .n; same = c .before .before .before .before .before .before .before .before .before .loop .same; next = c .before .before .before .before .before .before .before .before .before .loop .k; costs = c .before .before .before .before .before .before .before .before .before .loop .costs }) (g .row) (c .before .before .before .before .before .m .given .0 .1 .0) (g .stands) (search needs) (c .before .if2 .left) (c .if3 .taken)) (c .before .before .before .before .before .before .before .read-row .ensures .long)
+returns-4 c =
+    let at-if2 = c .before in
+    let at-place = at-if2 .before .before .before .before in
+    let at-read-row = at-place .before .before in
+    let turn = at-read-row .before .before in
+    let start = turn .before .before in
+    let s = start .args .s .now in
+    let columns = start .args .columns in
+    let g = found at-place in
+    table-refused _ _ (sym (turn .loop .inv .4) ∙ walk-other (fillRow columns) rowOf row-leaves s (turn .loop .i)
+    (record { rows = turn .loop .n; same = turn .loop .same; next = turn .loop .k; costs = turn .loop .costs }) (g .row) (at-place .m .given .0 .1 .0)
+    (g .stands) (search needs) (at-if2 .if2 .left) (c .if3 .taken)) (at-read-row .read-row .ensures .long)
 
 add-i : tie.Need-add-i Inv-loop μ-loop
 add-i c = search needs
 
 loop-less : tie.Need-loop-less Inv-loop μ-loop
-loop-less c = let g = found ((c .before .before .before .before .before)) in omega (arith, g .stands .past, g .stands .within, c .before .before .before .if1 .left)
+loop-less c =
+    let at-if1 = c .before .before .before in
+    let at-place = at-if1 .before .before in
+    let g = found at-place in omega (arith, g .stands .past, g .stands .within, at-if1 .if1 .left)
 
 loop-again : tie.Need-loop-again Inv-loop μ-loop
-loop-again c = let g = found ((c .before .before .before .before .before)) in let a : Filled = record { rows = c .before .before .before .before .before .before .before .before .before .loop .n; same = c .before .before .before .before .before .before .before .before .before .loop .same; next = c .before .before .before .before .before .before .before .before .before .loop .k; costs = c .before .before .before .before .before .before .before .before .before .loop .costs } in (search needs, omega (arith, c .before .before .before .before .before .before .before .before .before .loop .inv .1, short ((c .before .before .before .before .before))), omega (arith, c .before .before .before .before .before .before .before .before .before .loop .inv .2, g .stands .past), c .before .before .before .before .before .before .before .read-row .ensures .long, ap (λ (f : Filled). told (fillRow (c .before .before .before .before .before .before .before .before .before .before .before .args .columns)) f (c .before .before .before .before .before .before .before .before .before .before .before .args .s .now) (listed rowOf (drop (c .before .before .before .before .before .m .given .0 .1 .0 + 1) (c .before .before .before .before .before .before .before .before .before .before .before .args .s .now)))) (sym (fill-is (c .before .before .before .before .before .before .before .before .before .before .before .args .s .now) (c .before .before .before .before .before .before .before .before .before .loop .i) (c .before .before .before .before .before .before .before .before .before .before .before .args .columns) a (c .before .before .before .before .before .m .given .0 .0) (c .before .before .before .before .before .m .given .0 .1 .0) (c .before .before .before .before .before .before .before .read-row .last .1 .1 .0) g)) ∙ walk-more (fillRow (c .before .before .before .before .before .before .before .before .before .before .before .args .columns)) rowOf row-leaves (c .before .before .before .before .before .before .before .before .before .before .before .args .s .now) (c .before .before .before .before .before .before .before .before .before .loop .i) a (g .row) (c .before .before .before .before .before .m .given .0 .1 .0) (g .stands) (search needs) (c .if3 .left) ∙ c .before .before .before .before .before .before .before .before .before .loop .inv .4)
+loop-again c =
+    let at-place = c .before .before .before .before .before in
+    let at-read-row = at-place .before .before in
+    let turn = at-read-row .before .before in
+    let start = turn .before .before in
+    let s = start .args .s .now in
+    let columns = start .args .columns in
+    let g = found at-place in
+    let a : Filled = record { rows = turn .loop .n; same = turn .loop .same; next = turn .loop .k; costs = turn .loop .costs } in (
+      search needs,
+      omega (arith, turn .loop .inv .1, short at-place),
+      omega
+          (arith, turn .loop .inv .2, g .stands .past),
+      at-read-row .read-row .ensures .long,
+      ap
+          (λ (f : Filled). told (fillRow columns) f s (listed rowOf (drop (at-place .m .given .0 .1 .0 + 1) s)))
+          (sym (fill-is s (turn .loop .i) columns a (at-place .m .given .0 .0) (at-place .m .given .0 .1 .0) (at-read-row .read-row .last .1 .1 .0) g)) ∙ walk-more
+          (fillRow columns) rowOf row-leaves s (turn .loop .i) a (g .row) (at-place .m .given .0 .1 .0) (g .stands) (search needs) (c .if3 .left)
+          ∙ turn .loop .inv .4,
+    )
 
 pub read-rows-spec : {M : Type 1} → statement M
-read-rows-spec = tie.close (tie.spec Inv-loop μ-loop loop-holds read-row-requires enum-told returns enum-known-m returns-2 add-n add-k shared-slice-read-c add-t18 returns-3 returns-4 add-i loop-less loop-again)
+read-rows-spec =
+    tie.close (tie.spec Inv-loop μ-loop loop-holds read-row-requires enum-told returns enum-known-m returns-2 add-n add-k shared-slice-read-c add-t18 returns-3
+    returns-4 add-i loop-less loop-again)

@@ -1,3 +1,4 @@
+-- The word ends where `past_word` says; each branch is one equation of `argumentOf` (`argument-…` in Numbers).
 use borrow.Author.Needs.{needs}
 use mathlib.Core.Path.{sym, ap, _∙_}
 use Rattle.forms.specs.Decimal.{replyOfDecimal}
@@ -61,7 +62,8 @@ returns-3 c =
     let start = at-past-word .before .before in
     let s = start .args .s .now in
     let at = start .args .at in
-    argument-none s at (at-past-word .past-word .result) (start .pre) (at-past-word .past-word .ensures) (no-value _ (sym (ap replyOfDecimal (c .enum-told .given .1)) ∙ at-number .number .ensures))
+    argument-none s at (at-past-word .past-word .result) (start .pre) (at-past-word .past-word .ensures)
+    (no-value _ (sym (ap replyOfDecimal (c .enum-told .given .1)) ∙ at-number .number .ensures))
 
 returns-4 : tie.Need-returns-4
 returns-4 c =
@@ -72,7 +74,8 @@ returns-4 c =
     let start = at-past-word .before .before in
     let s = start .args .s .now in
     let at = start .args .at in
-    argument-plus s at (at-past-word .past-word .result) (start .pre) (at-past-word .past-word .ensures) (search needs) (at-if2 .if2 .left) (at-n .n .given .0 .0) (plus-value _ _ (sym (ap replyOfDecimal (at-n .n .given .1)) ∙ at-number .number .ensures))
+    argument-plus s at (at-past-word .past-word .result) (start .pre) (at-past-word .past-word .ensures) (search needs) (at-if2 .if2 .left)
+    (at-n .n .given .0 .0) (plus-value _ _ (sym (ap replyOfDecimal (at-n .n .given .1)) ∙ at-number .number .ensures))
 
 returns-5 : tie.Need-returns-5
 returns-5 c =
@@ -83,7 +86,10 @@ returns-5 c =
     let start = at-past-word .before .before in
     let s = start .args .s .now in
     let at = start .args .at in
-    argument-minus s at (at-past-word .past-word .result) (start .pre) (at-past-word .past-word .ensures) (search needs) (at-if2 .if2 .left) (at-n2 .n2 .given .0 .0) (minus-value _ _ (sym (ap replyOfDecimal (at-n2 .n2 .given .1)) ∙ at-number .number .ensures))
+    argument-minus s at (at-past-word .past-word .result) (start .pre) (at-past-word .past-word .ensures) (search needs) (at-if2 .if2 .left)
+    (at-n2 .n2 .given .0 .0) (minus-value _ _ (sym (ap replyOfDecimal (at-n2 .n2 .given .1)) ∙ at-number .number .ensures))
 
 pub argument-spec : {M : Type 1} → statement M
-argument-spec = tie.close (tie.spec past-word-requires returns shared-slice-read-if2 returns-2 sub-number part-number-start part-number-end number-requires enum-told enum-known-n add-t15 enum-known-n-2 add-t16 returns-3 returns-4 returns-5)
+argument-spec =
+    tie.close (tie.spec past-word-requires returns shared-slice-read-if2 returns-2 sub-number part-number-start part-number-end number-requires enum-told
+    enum-known-n add-t15 enum-known-n-2 add-t16 returns-3 returns-4 returns-5)

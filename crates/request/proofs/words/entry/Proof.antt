@@ -1,3 +1,4 @@
+-- The word ends where `past_word` says; each branch is one equation of `entryOf` (`entry-…` in Numbers).
 use borrow.Author.Needs.{needs}
 use mathlib.Core.Path.{ap, sym, _∙_}
 use lib.Ieee.{Float, nanBits}
@@ -38,7 +39,8 @@ returns c =
     let start = at-past-word .before .before in
     let s = start .args .s .now in
     let at = start .args .at in
-    ap (λ (x : Float). Cost x (at-past-word .past-word .result)) infinite ∙ entry-dash s at (at-past-word .past-word .result) (start .pre) (at-past-word .past-word .ensures) (sym (at-is-dash .is-dash .ensures) ∙ c .if1 .taken)
+    ap (λ (x : Float). Cost x (at-past-word .past-word .result)) infinite ∙ entry-dash s at (at-past-word .past-word .result) (start .pre)
+    (at-past-word .past-word .ensures) (sym (at-is-dash .is-dash .ensures) ∙ c .if1 .taken)
 
 sub-number : tie.Need-sub-number
 sub-number c = search needs
@@ -81,7 +83,8 @@ returns-2 c =
     let start = at-past-word .before .before in
     let s = start .args .s .now in
     let at = start .args .at in
-    entry-none s at (at-past-word .past-word .result) (start .pre) (at-past-word .past-word .ensures) (sym (at-is-dash .is-dash .ensures) ∙ at-if1 .if1 .left) (no-value _ (sym (ap replyOfDecimal (c .enum-told .given .1)) ∙ at-number .number .ensures))
+    entry-none s at (at-past-word .past-word .result) (start .pre) (at-past-word .past-word .ensures) (sym (at-is-dash .is-dash .ensures) ∙ at-if1 .if1 .left)
+    (no-value _ (sym (ap replyOfDecimal (c .enum-told .given .1)) ∙ at-number .number .ensures))
 
 returns-3 : tie.Need-returns-3
 returns-3 c =
@@ -93,7 +96,8 @@ returns-3 c =
     let start = at-past-word .before .before in
     let s = start .args .s .now in
     let at = start .args .at in
-    entry-plus s at (at-past-word .past-word .result) (start .pre) (at-past-word .past-word .ensures) (sym (at-is-dash .is-dash .ensures) ∙ at-if1 .if1 .left) (at-n .n .given .0 .0) (plus-value _ _ (sym (ap replyOfDecimal (at-n .n .given .1)) ∙ at-number .number .ensures))
+    entry-plus s at (at-past-word .past-word .result) (start .pre) (at-past-word .past-word .ensures) (sym (at-is-dash .is-dash .ensures) ∙ at-if1 .if1 .left)
+    (at-n .n .given .0 .0) (plus-value _ _ (sym (ap replyOfDecimal (at-n .n .given .1)) ∙ at-number .number .ensures))
 
 returns-4 : tie.Need-returns-4
 returns-4 c =
@@ -105,7 +109,10 @@ returns-4 c =
     let start = at-past-word .before .before in
     let s = start .args .s .now in
     let at = start .args .at in
-    entry-minus s at (at-past-word .past-word .result) (start .pre) (at-past-word .past-word .ensures) (sym (at-is-dash .is-dash .ensures) ∙ at-if1 .if1 .left) (at-n2 .n2 .given .0 .0) (minus-value _ _ (sym (ap replyOfDecimal (at-n2 .n2 .given .1)) ∙ at-number .number .ensures))
+    entry-minus s at (at-past-word .past-word .result) (start .pre) (at-past-word .past-word .ensures) (sym (at-is-dash .is-dash .ensures) ∙ at-if1 .if1 .left)
+    (at-n2 .n2 .given .0 .0) (minus-value _ _ (sym (ap replyOfDecimal (at-n2 .n2 .given .1)) ∙ at-number .number .ensures))
 
 pub entry-spec : {M : Type 1} → statement M
-entry-spec = tie.close (tie.spec past-word-requires sub-is-dash part-is-dash-start part-is-dash-end is-dash-requires float-from-bits-t11 returns sub-number part-number-start part-number-end number-requires enum-told enum-known-n int-to-float-t17 enum-known-n-2 int-to-float-t18 returns-2 returns-3 returns-4)
+entry-spec =
+    tie.close (tie.spec past-word-requires sub-is-dash part-is-dash-start part-is-dash-end is-dash-requires float-from-bits-t11 returns sub-number
+    part-number-start part-number-end number-requires enum-told enum-known-n int-to-float-t17 enum-known-n-2 int-to-float-t18 returns-2 returns-3 returns-4)
