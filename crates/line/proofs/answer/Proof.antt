@@ -1,3 +1,4 @@
+-- A line that is no form is refused with 13; another one is what `decide` writes.
 use borrow.Author.Needs.{needs}
 use borrow.Author.Tests.{not-true, not-false}
 use mathlib.Core.Path.{_≡_, sym, _∙_}

@@ -1,3 +1,4 @@
+-- Each branch is one way in which the bytes behind the form are a newline and no more, or not.
 use borrow.Author.Needs.{needs}
 use mathlib.Core.Path.{sym, ap, _∙_}
 use native.Mathlib.Omega.{arith}

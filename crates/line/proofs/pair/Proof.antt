@@ -1,3 +1,4 @@
+-- Each outcome of the assignment is written as the definition has it.
 use borrow.Author.Needs.{needs}
 use native.Mathlib.Omega.{arith}
 use mathlib.Core.Path.{sym}
@@ -56,7 +57,9 @@ returns c =
     let at-write-answer = c .before .before in
     let at-enum-told = at-write-answer .before .before in
     let at-linear-assignment = at-enum-told .before .before .before in
-    wrote-in _ (reply-given _ (at-linear-assignment .linear-assignment .result) (at-linear-assignment .linear-assignment .ensures) (at-enum-told .enum-told .given .1)) (at-write-answer .write-answer .ensures)
+    wrote-in _
+    (reply-given _ (at-linear-assignment .linear-assignment .result) (at-linear-assignment .linear-assignment .ensures) (at-enum-told .enum-told .given .1))
+    (at-write-answer .write-answer .ensures)
 
 same-length-2 : tie.Need-same-length-2
 same-length-2 c = search needs
@@ -66,7 +69,9 @@ returns-2 c =
     let at-write-refusal = c .before .before in
     let at-enum-told2 = at-write-refusal .before .before in
     let at-linear-assignment = at-enum-told2 .before .before .before in
-    wrote-in _ (reply-many _ (at-linear-assignment .linear-assignment .result) (at-linear-assignment .linear-assignment .ensures) (at-enum-told2 .enum-told2 .given .1)) (at-write-refusal .write-refusal .ensures)
+    wrote-in _
+    (reply-many _ (at-linear-assignment .linear-assignment .result) (at-linear-assignment .linear-assignment .ensures) (at-enum-told2 .enum-told2 .given .1))
+    (at-write-refusal .write-refusal .ensures)
 
 same-length-3 : tie.Need-same-length-3
 same-length-3 c = search needs
@@ -76,7 +81,9 @@ returns-3 c =
     let at-write-refusal2 = c .before .before in
     let at-enum-told3 = at-write-refusal2 .before .before in
     let at-linear-assignment = at-enum-told3 .before .before .before in
-    wrote-in _ (reply-endless _ (at-linear-assignment .linear-assignment .result) (at-linear-assignment .linear-assignment .ensures) (at-enum-told3 .enum-told3 .given .1)) (at-write-refusal2 .write-refusal2 .ensures)
+    wrote-in _
+    (reply-endless _ (at-linear-assignment .linear-assignment .result) (at-linear-assignment .linear-assignment .ensures) (at-enum-told3 .enum-told3 .given .1))
+    (at-write-refusal2 .write-refusal2 .ensures)
 
 same-length-4 : tie.Need-same-length-4
 same-length-4 c = search needs
@@ -86,7 +93,12 @@ returns-4 c =
     let at-write-refusal3 = c .before .before in
     let at-enum-told4 = at-write-refusal3 .before .before in
     let at-linear-assignment = at-enum-told4 .before .before .before in
-    wrote-in _ (reply-failed _ (at-linear-assignment .linear-assignment .result) (at-linear-assignment .linear-assignment .ensures) (at-enum-told4 .enum-told4 .given .1)) (at-write-refusal3 .write-refusal3 .ensures)
+    wrote-in _
+    (reply-failed _ (at-linear-assignment .linear-assignment .result) (at-linear-assignment .linear-assignment .ensures) (at-enum-told4 .enum-told4 .given .1))
+    (at-write-refusal3 .write-refusal3 .ensures)
 
 pub pair-spec : {M : Type 1} → statement M
-pair-spec = tie.close (tie.spec mul-n slice-aggregate-linear-assignment linear-assignment-requires enum-told write-answer-requires enum-told-2 write-refusal-requires enum-told-3 write-refusal-requires-2 enum-told-4 write-refusal-requires-3 same-length returns same-length-2 returns-2 same-length-3 returns-3 same-length-4 returns-4)
+pair-spec =
+    tie.close (tie.spec mul-n slice-aggregate-linear-assignment linear-assignment-requires enum-told write-answer-requires enum-told-2 write-refusal-requires
+    enum-told-3 write-refusal-requires-2 enum-told-4 write-refusal-requires-3 same-length returns same-length-2 returns-2 same-length-3 returns-3 same-length-4
+    returns-4)
