@@ -1,9 +1,8 @@
 -- A list of C calls is a list of calls. Assumes nothing.
-use mathlib.Core.Path.{_≡_, refl, sym, ap, _∙_}
+use mathlib.Core.Path.{_≡_, refl, ap, _∙_}
 use mathlib.Core.List.{List, [], _∷_, map}
 use Rattle.number.specs.Reply.{Reply, refused, given, leftIn}
 use Rattle.types.specs.States.{State}
-use Rattle.settings.specs.declared.Cartesian3DTrackerConfig.{Cartesian3DTrackerConfig}
 use Rattle.calls.specs.Run.{run, stateReply, stateAfter}
 use Rattle.records.specs.declared.config.PkSettings.{PkSettings}
 use Rattle.records.specs.declared.tracker.PkTracker.{PkTracker}

@@ -4,13 +4,16 @@ use mathlib.Core.Bool.{Bool, true, false, cond}
 use mathlib.Core.List.{List, [], _∷_, map, List·Memᴰ, List·Memᴰ·head, List·Memᴰ·tail, List·Memᴰ·cases-cons, List·Memᴰ·not-nil}
 use mathlib.Core.Option.{Option, none, some}
 use mathlib.Core.Logic.{_⊎_, inl, inr}
-use Prim.Native.Nat.{ℕ, zero, suc}
+use Prim.Native.Nat.{ℕ, zero, suc, _<_}
+use native.Mathlib.Omega.{arith}
 use lib.Dec.{eqb}
 use lib.ListN.{take}
-use Rattle.number.specs.Reply.{Reply, given}
+use Rattle.number.specs.Reply.{Reply, refused, given, codeOf}
 use Rattle.lists.specs.First.{firstOf}
 use Rattle.lists.proofs.Laying.{take-lay}
 use Rattle.settings.specs.declared.Cartesian3DTrackerConfig.{Cartesian3DTrackerConfig}
+use Rattle.settings.specs.Fields.{Field, firstBad, SettingsReply, accepted, refused as bad}
+use Rattle.settings.specs.Settings.{fieldsOf, settingsReply}
 use Rattle.types.specs.declared.batch.ObservationBatch3D.{ObservationBatch3D}
 use Rattle.types.specs.declared.track.Track3D.{Track3D}
 use Rattle.types.specs.States.{State, stateOf, tracksOf}
@@ -33,23 +36,32 @@ use Rattle.records.specs.Trackers.{trackerOf, pkOver, pkAfter, pkFresh}
 use Rattle.records.proofs.Overs.{state-over-pk, fresh-tracker}
 use Rattle.batch_records.specs.declared.PkBatch.{PkBatch}
 use Rattle.batch_records.specs.Batches.{batchOf, reportTo}
-use Rattle.c_tracker.specs.Calls.{pkState, processedBy, batchAnswer}
+use Rattle.c_tracker.specs.Calls.{pkState, Heeded, newBy, newAnswer, processedBy, batchOn, batchAnswer}
 use Rattle.c_guarantee.specs.Reading.{pkTracks, trackIn, reportIn}
-use Rattle.c_guarantee.specs.Claim.{PkCall, callOf, pkRun, Gives, heldAfter, PkGuaranteed, PkDemand3}
+use Rattle.c_guarantee.specs.Claim.{PkCall, callOf, pkRun, heldAfter, PkGuaranteed, PkDemand3}
 use Rattle.c_guarantee.proofs.Reports.{report-read}
 use Rattle.c_guarantee.proofs.Runs.{run-settings, calls-are-calls}
 
 -- ---- an accepted batch
+
+-- the batch b on the record u is accepted, and gives x
+abbrev Gives : PkTracker → PkBatch → Done → Type 0
+Gives u b x = batchOn u b ≡ given x
+
+-- an answer of 0 says so
+accepted-by : (r : Reply Done) → Heeded r → codeOf r ≡ 0 → (x : Done) × (r ≡ given x)
+accepted-by (refused n) h e = absurd (let z = h n refl in let f : n ≡ 0 = e in omega arith)
+accepted-by (given x) h e = (x, refl)
+
+gives-by-code : (u : PkTracker) (b : PkBatch) → Heeded (batchOn u b) → batchAnswer u b .report .code ≡ 0 → (x : Done) × Gives u b x
+unfolding batchAnswer reportTo
+gives-by-code u b h e = accepted-by (batchOn u b) h e
 
 module _ (u : PkTracker) (b : PkBatch) (x : Done) (g : Gives u b x) where
   -- the whole answer is that of what is given
   answered : batchAnswer u b ≡ processedBy u (given x)
   unfolding batchAnswer
   answered = ap (processedBy u) g
-
-  code-0 : batchAnswer u b .report .code ≡ 0
-  unfolding reportTo
-  code-0 = ap (λ p. p .report .code) answered
 
   left-is : batchAnswer u b .tracker ≡ pkOver u (x .state)
   unfolding pkAfter
@@ -159,16 +171,37 @@ module _ (settings : PkSettings) (cs : List PkCall) (a b : PkBatch) (x y : Done)
       subst (λ (n : ℕ). numbers.trackOf n (x .state .tracks) ≡ numbers.trackOf n (y .state .tracks)) (same-number z) e in
       ap (trackIn (z .id)) (left-is u a x A) ∙ track-in u (x .state) (z .id) ∙ ap (through trackTo) same ∙ sym (track-in u (y .state) (z .id)) ∙ ap (trackIn (z .id)) (sym (left-is u b y B))
 
-  pub pk-guaranteed : PkGuaranteed settings cs u a b d
+  pk-guaranteed : PkGuaranteed settings cs u a b d
   pk-guaranteed =
       record {
-        codeA = code-0 u a x A;
-        codeB = code-0 u b y B;
         guaranteed =
             subst (λ (p : Done). Guaranteed c freshState (map callOf cs) (pkState u) (batchOf a) (batchOf b) d p (heldAfter u b)) (sym (held u a x A))
             (subst (λ (p : Done). Guaranteed c freshState (map callOf cs) (pkState u) (batchOf a) (batchOf b) d x p) (sym (held u b y B)) whole);
         standing = stands;
       }
 
+-- settings are refused with 1 alone
+settings-number : (l : List Field) (n k : ℕ) → firstBad l ≡ bad n k → 0 < n
+unfolding firstBad
+settings-number [] n k e = absurd (let z : _≡_ {A = ℕ} 0 1 = cc in omega arith)
+settings-number (f ∷ l) n k e = go (f .bad) (settings-number l n k) e
+  where
+    go : (p : Bool) → (firstBad l ≡ bad n k → 0 < n) → cond p (bad 1 (f .number)) (firstBad l) ≡ bad n k → 0 < n
+    go true h e = let one : 1 ≡ n = cc in omega arith
+    go false h e = h e
+
+fresh-by : (t : PkTracker) (c : PkSettings) (r : SettingsReply) → ((n k : ℕ) → r ≡ bad n k → 0 < n) → newBy r t c .code ≡ 0 → newBy r t c .tracker ≡ pkFresh c
+fresh-by t c accepted h e = refl
+fresh-by t c (bad n k) h e = absurd (let z = h n k refl in let f : n ≡ 0 = e in omega arith)
+
+-- an answer of 0 says that the record is a fresh one
+fresh-left : (t : PkTracker) (c : PkSettings) → newAnswer t c .code ≡ 0 → newAnswer t c .tracker ≡ pkFresh c
+unfolding newAnswer settingsReply
+fresh-left t c e = fresh-by t c (settingsReply (settingsOf c)) (settings-number (fieldsOf (settingsOf c))) e
+
 pub pk-demand3 : PkDemand3
-pk-demand3 settings cs a b x y A B d = pk-guaranteed settings cs a b x y (pkRun cs (pkFresh settings)) refl A B d
+pk-demand3 before settings cs a b z h e k f d =
+    let u = pkRun cs (newAnswer before settings .tracker) in
+    let A = gives-by-code u a h e in
+    let B = gives-by-code u b k f in
+    pk-guaranteed settings cs a b (A .0) (B .0) u (ap (pkRun cs) (fresh-left before settings z)) (A .1) (B .1) d

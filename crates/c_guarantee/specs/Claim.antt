@@ -5,9 +5,8 @@ use mathlib.Core.Path.{_≡_}
 use mathlib.Core.List.{List, [], _∷_, map, List·Memᴰ}
 use lib.IntN.{ℤ}
 use lib.Ieee.{Float}
-use Rattle.number.specs.Reply.{given}
 use Rattle.types.specs.Fresh.{freshState}
-use Rattle.calls.specs.Process.{Done, processReply}
+use Rattle.calls.specs.Process.{Done}
 use Rattle.calls.specs.Run.{Call, run}
 use Rattle.calls.specs.Run as calls
 use Rattle.guarantee.specs.Claim.{DifferByFar, Guaranteed}
@@ -15,10 +14,9 @@ use Rattle.records.specs.declared.config.PkSettings.{PkSettings}
 use Rattle.records.specs.declared.tracks.PkTrack.{PkTrack}
 use Rattle.records.specs.declared.tracker.PkTracker.{PkTracker}
 use Rattle.records.specs.Configs.{settingsOf}
-use Rattle.records.specs.Trackers.{pkFresh}
 use Rattle.batch_records.specs.declared.PkBatch.{PkBatch}
 use Rattle.batch_records.specs.Batches.{batchOf}
-use Rattle.c_tracker.specs.Calls.{pkState, predictAnswer, priorAnswer, batchAnswer}
+use Rattle.c_tracker.specs.Calls.{pkState, Heeded, newAnswer, predictAnswer, priorAnswer, batchOn, batchAnswer}
 use Rattle.c_guarantee.specs.Reading.{trackIn, pkTracks, doneIn}
 
 -- ---- a list of C calls
@@ -52,25 +50,21 @@ CallsAreCalls = (cs : List PkCall) (t : PkTracker) → pkState (pkRun cs t) ≡ 
 
 -- ---- demand 3
 
--- the batch b on the record u is accepted, and gives x
-abbrev pub Gives : PkTracker → PkBatch → Done → Type 0
-Gives u b x = processReply (settingsOf (u .settings)) (pkState u) (batchOf b) ≡ given x
-
 -- what the C program holds after it: the tracker's state, and what the report tells
 abbrev pub heldAfter : PkTracker → PkBatch → Done
 heldAfter u b = doneIn (batchAnswer u b .tracker) (batchAnswer u b .report)
 
--- u is the record that these calls left of a fresh one; a and b are two batches, both accepted from it, that differ only by far detections
+-- u is the record that these calls left of a fresh one; a and b are two batches, both answered with 0 on it, that differ only by far detections
 pub record PkGuaranteed (settings : PkSettings) (cs : List PkCall) (u : PkTracker) (a b : PkBatch) (d : DifferByFar (settingsOf settings) (pkState u) (batchOf a) (batchOf b)) : Type 0 where
-  -- both answer 0
-  pub codeA : batchAnswer u a .report .code ≡ 0
-  pub codeB : batchAnswer u b .report .code ≡ 0
   -- every sentence of the guarantee, of what the C program holds after each
   pub guaranteed : Guaranteed (settingsOf settings) freshState (map callOf cs) (pkState u) (batchOf a) (batchOf b) d (heldAfter u a) (heldAfter u b)
   -- and of the bits in C's own records: "every track standing before is kept in both or dropped in both, and if kept ends with the same bits"
   pub standing : (x : PkTrack) → List·Memᴰ x (pkTracks u) → trackIn (x .id) (batchAnswer u a .tracker) ≡ trackIn (x .id) (batchAnswer u b .tracker)
 
--- From what pk_tracker_new leaves where it answers 0 (`newAnswer`), whatever calls came since, refused ones among them.
+-- From what pk_tracker_new leaves where it answers 0, over whatever stood there before, and whatever calls came since, refused ones among them. That a refusal's number is above 0 (`Heeded`) is
+-- part of the contract of pk_process_batch, which holds for both calls; so an answer of 0 says that the batch was accepted.
 abbrev pub PkDemand3 : Type 0
-PkDemand3 = (settings : PkSettings) (cs : List PkCall) (a b : PkBatch) (x y : Done) → let u = pkRun cs (pkFresh settings) in
-    Gives u a x → Gives u b y → (d : DifferByFar (settingsOf settings) (pkState u) (batchOf a) (batchOf b)) → PkGuaranteed settings cs u a b d
+PkDemand3 = (before : PkTracker) (settings : PkSettings) (cs : List PkCall) (a b : PkBatch) → newAnswer before settings .code ≡ 0
+    → let u = pkRun cs (newAnswer before settings .tracker) in
+    Heeded (batchOn u a) → batchAnswer u a .report .code ≡ 0 → Heeded (batchOn u b) → batchAnswer u b .report .code ≡ 0
+    → (d : DifferByFar (settingsOf settings) (pkState u) (batchOf a) (batchOf b)) → PkGuaranteed settings cs u a b d

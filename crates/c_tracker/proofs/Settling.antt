@@ -1,31 +1,51 @@
 -- What a call of the tracker answers and leaves, laid over the record that a C program holds. Assumes nothing.
 use mathlib.Core.Path.{_≡_, refl, ap, subst, _∙_}
-use Prim.Native.Nat.{ℕ}
+use Prim.Native.Nat.{ℕ, _<_}
 use native.Mathlib.Omega.{arith}
 use Rattle.number.specs.Reply.{Reply, refused, given, codeOf}
 use Rattle.types.specs.declared.batch.ObservationBatch3D.{ObservationBatch3D}
 use Rattle.types.specs.declared.batch.BatchReport3D.{BatchReport3D}
+use Rattle.types.specs.declared.refusal.Refusal.{Refusal}
+use Rattle.types.specs.declared.refusal.Refusal.the-variants as refusal
 use Rattle.types.specs.declared.refusal.Outcome.{Outcome}
 use Rattle.types.specs.declared.refusal.Outcome.the-variants as outcome
 use Rattle.types.specs.declared.tracker.Cartesian3DTracker.{Cartesian3DTracker}
-use Rattle.types.specs.Refusals.{replyOf}
-use Rattle.types.specs.States.{State, stateOf}
-use Rattle.calls.specs.Process.{Done, processReply}
+use Rattle.types.specs.Refusals.{numberOf, replyOf}
+use Rattle.types.specs.States.{State}
+use Rattle.calls.specs.Process.{Done}
 use Rattle.calls.specs.Run.{stateGiven}
 use Rattle.calls.specs.Answers.{Answers, BatchAnswers, verdictOn, reportAfter}
 use Rattle.records.specs.declared.tracker.PkTracker.{PkTracker}
 use Rattle.records.specs.Trackers.{trackerOf, pkAfter}
 use Rattle.records.proofs.Overs.{laid-over}
-use Rattle.records.specs.Configs.{settingsOf}
 use Rattle.batch_records.specs.declared.PkBatch.{PkBatch}
 use Rattle.batch_records.specs.Batches.{batchOf, reportTo}
-use Rattle.c_tracker.specs.Calls.{settled, answerOf, processedBy, batchAnswer}
+use Rattle.c_tracker.specs.Calls.{Heeded, settled, answerOf, processedBy, batchOn, batchAnswer}
 
 verdict-code : {A : Type 0} (reply : Reply A) → codeOf (verdictOn reply) ≡ codeOf reply
 verdict-code (refused n) = refl
 verdict-code (given v) = refl
 
+number-above : (why : Refusal) → 0 < numberOf why
+number-above (refusal.InvalidConfig field) = omega arith
+number-above refusal.FrameMismatch = omega arith
+number-above refusal.TimestampWentBackwards = omega arith
+number-above refusal.DuplicateBatch = omega arith
+number-above refusal.NonFiniteValue = omega arith
+number-above refusal.NotSymmetric = omega arith
+number-above refusal.NotPositiveDefinite = omega arith
+number-above refusal.TimestampOverflow = omega arith
+number-above refusal.NonFiniteResult = omega arith
+number-above refusal.AssignmentFailed = omega arith
+number-above refusal.TooMany = omega arith
+number-above refusal.InvalidPrior = omega arith
+
 module _ (t : PkTracker) (u : Cartesian3DTracker) where
+  -- a refusal that an outcome names has its number
+  pub heeded : (o : Outcome) (reply : Reply State) → Answers (trackerOf t) u o reply → Heeded reply
+  heeded outcome.Done reply h n e = absurd (let f = h .is ∙ ap verdictOn e in let z : _≡_ {A = ℕ} 0 1 = cc in omega arith)
+  heeded (outcome.Refused why) reply h n e = let f : refused (numberOf why) ≡ refused n = h .is ∙ ap verdictOn e in let same : numberOf why ≡ n = cc in subst (λ (k : ℕ). 0 < k) same (number-above why)
+
   -- the number that is answered
   code-is : (o : Outcome) (reply : Reply State) → Answers (trackerOf t) u o reply → codeOf (replyOf o) ≡ codeOf reply
   code-is o reply h = ap (codeOf {A = Unit {0}}) (h .is) ∙ verdict-code reply
@@ -53,8 +73,8 @@ module _ (t : PkTracker) (u : Cartesian3DTracker) where
 
   -- a batch, on what the record was read as
   pub batch-is : (b : PkBatch) (x : Cartesian3DTracker) (y : ObservationBatch3D) (o : Outcome) (report : BatchReport3D) → x ≡ trackerOf t → y ≡ batchOf b → BatchAnswers x y u o report
-      → record { tracker = settled t o u; report = reportTo (codeOf (replyOf o)) report } ≡ batchAnswer t b
+      → (record { tracker = settled t o u; report = reportTo (codeOf (replyOf o)) report } ≡ batchAnswer t b) × Heeded (batchOn t b)
   unfolding batchAnswer trackerOf
   batch-is b x y o report e f h =
       let k = subst (λ (z : ObservationBatch3D). BatchAnswers (trackerOf t) z u o report) f (subst (λ (z : Cartesian3DTracker). BatchAnswers z y u o report) e h) in
-      processed-is o report (processReply (settingsOf (t .settings)) (stateOf (trackerOf t)) (batchOf b)) (k .tracker) (k .reported)
+      (processed-is o report (batchOn t b) (k .tracker) (k .reported), λ n e. heeded o (stateGiven (batchOn t b)) (k .tracker) n (ap stateGiven e))

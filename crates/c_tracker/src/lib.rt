@@ -5,7 +5,7 @@ ghost use Rattle.settings.specs.Settings.{defaultSettings, settingsReply};
 ghost use Rattle.settings.specs.Settings as settings;
 ghost use Rattle.types.specs.Refusals.{numberOf, replyOf};
 ghost use Rattle.records.specs.Configs.{settingsOf, settingsTo};
-ghost use Rattle.c_tracker.specs.Calls.{checkAnswer, newAnswer, predictAnswer, priorAnswer, batchAnswer, settled};
+ghost use Rattle.c_tracker.specs.Calls.{Heeded, checkAnswer, newAnswer, predictOn, predictAnswer, priorOn, priorAnswer, batchOn, batchAnswer, settled};
 use batch_records::PkBatch;
 use batch_records::PkReport;
 use records::config::PkSettings;
@@ -108,7 +108,7 @@ pub fn new(t: PkTracker, s: PkSettings) -> Answer
 
 // The tracker at a time.
 pub fn predict_to(t: PkTracker, at: i64) -> Answer
-    ensures { λ r. ⌜ r ≡ predictAnswer t at ⌝ }
+    ensures { λ r. ⌜ (r ≡ predictAnswer t at) × Heeded (predictOn t at) ⌝ }
 {
     let answer = tracker::predict_to(records::tracker::tracker_of(t), at);
     let outcome = answer.outcome;
@@ -121,7 +121,7 @@ pub fn predict_to(t: PkTracker, at: i64) -> Answer
 
 // The prior of the track of a number.
 pub fn set_class_prior(t: PkTracker, id: u64, label: u32, confidence: f64) -> Answer
-    ensures { λ r. ⌜ r ≡ priorAnswer t id label confidence ⌝ }
+    ensures { λ r. ⌜ (r ≡ priorAnswer t id label confidence) × Heeded (priorOn t id label confidence) ⌝ }
 {
     let answer = tracker::set_class_prior(records::tracker::tracker_of(t), id, label, confidence);
     let outcome = answer.outcome;
@@ -134,7 +134,7 @@ pub fn set_class_prior(t: PkTracker, id: u64, label: u32, confidence: f64) -> An
 
 // A sensor's batch.
 pub fn process_batch(t: PkTracker, b: PkBatch) -> Processed
-    ensures { λ r. ⌜ r ≡ batchAnswer t b ⌝ }
+    ensures { λ r. ⌜ (r ≡ batchAnswer t b) × Heeded (batchOn t b) ⌝ }
 {
     let answer = tracker::process_batch_reported(
         records::tracker::tracker_of(t),

@@ -2,7 +2,7 @@
 ghost use mathlib.Core.Path.{_≡_};
 ghost use Rattle.settings.specs.Settings.{defaultSettings};
 ghost use Rattle.records.specs.Configs.{settingsTo};
-ghost use Rattle.c_tracker.specs.Calls.{checkAnswer, newAnswer, predictAnswer, priorAnswer, batchAnswer};
+ghost use Rattle.c_tracker.specs.Calls.{Heeded, checkAnswer, newAnswer, predictOn, predictAnswer, priorOn, priorAnswer, batchOn, batchAnswer};
 use batch_records::PkBatch;
 use batch_records::PkReport;
 use records::config::PkSettings;
@@ -37,7 +37,8 @@ pub extern "C" fn pk_tracker_new(t: &mut PkTracker, s: PkSettings) -> u32
 // The tracker at a time.
 #[no_mangle]
 pub extern "C" fn pk_predict_to(t: &mut PkTracker, at: i64) -> u32
-    ensures { λ r. ⌜ (now (t .exit) ≡ predictAnswer (now (t .entry)) at .tracker) × (r ≡ predictAnswer (now (t .entry)) at .code) ⌝ }
+    ensures { λ r. ⌜ (now (t .exit) ≡ predictAnswer (now (t .entry)) at .tracker) × (r ≡ predictAnswer (now (t .entry)) at .code)
+        × Heeded (predictOn (now (t .entry)) at) ⌝ }
 {
     let a = c_tracker::predict_to(*t, at);
     *t = a.tracker;
@@ -47,7 +48,8 @@ pub extern "C" fn pk_predict_to(t: &mut PkTracker, at: i64) -> u32
 // The prior of the track of a number.
 #[no_mangle]
 pub extern "C" fn pk_set_class_prior(t: &mut PkTracker, id: u64, label: u32, confidence: f64) -> u32
-    ensures { λ r. ⌜ (now (t .exit) ≡ priorAnswer (now (t .entry)) id label confidence .tracker) × (r ≡ priorAnswer (now (t .entry)) id label confidence .code) ⌝ }
+    ensures { λ r. ⌜ (now (t .exit) ≡ priorAnswer (now (t .entry)) id label confidence .tracker) × (r ≡ priorAnswer (now (t .entry)) id label confidence .code)
+        × Heeded (priorOn (now (t .entry)) id label confidence) ⌝ }
 {
     let a = c_tracker::set_class_prior(*t, id, label, confidence);
     *t = a.tracker;
@@ -58,7 +60,8 @@ pub extern "C" fn pk_set_class_prior(t: &mut PkTracker, id: u64, label: u32, con
 #[no_mangle]
 pub extern "C" fn pk_process_batch(t: &mut PkTracker, b: &PkBatch) -> PkReport
     ensures { λ r. ⌜ (now (t .exit) ≡ batchAnswer (now (t .entry)) (now (b .entry)) .tracker)
-        × (r ≡ batchAnswer (now (t .entry)) (now (b .entry)) .report) ⌝ }
+        × (r ≡ batchAnswer (now (t .entry)) (now (b .entry)) .report)
+        × Heeded (batchOn (now (t .entry)) (now (b .entry))) ⌝ }
 {
     let a = c_tracker::process_batch(*t, *b);
     *t = a.tracker;

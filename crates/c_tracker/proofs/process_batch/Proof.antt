@@ -8,8 +8,9 @@ returns c =
     let a = c .before .before .before .before .before in
     let s = a .before .before .before .args in
     let r = a .process-batch-reported .result in
-    rw (c .report-to .ensures, c .before .code-of .ensures, c .before .before .settle .ensures)
-    (batch-is (s .t) (r .tracker) (s .b) _ _ (r .outcome) (r .report) (a .before .before .tracker-of .ensures) (a .before .batch-of .ensures) (a .process-batch-reported .ensures))
+    let h =
+    batch-is (s .t) (r .tracker) (s .b) _ _ (r .outcome) (r .report) (a .before .before .tracker-of .ensures) (a .before .batch-of .ensures) (a .process-batch-reported .ensures) in
+    (rw (c .report-to .ensures, c .before .code-of .ensures, c .before .before .settle .ensures) (h .0), h .1)
 
 pub process-batch-spec : {M : Type 1} → statement M
 process-batch-spec =

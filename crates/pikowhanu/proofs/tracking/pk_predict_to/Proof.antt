@@ -44,7 +44,7 @@ use denote.Triple.Walked.{says, Stays, stay-ref, stay-none, stay-none-ref, walkO
 use denote.Triple.Clauses.{ensured, lasts}
 use denote.Exit.{yes}
 use Rattle.pikowhanu.proofs.Lent.{opened, given-back, looked, shut-again, gone1}
-use Rattle.c_tracker.specs.Calls.{predictAnswer}
+use Rattle.c_tracker.specs.Calls.{predictAnswer, Heeded, predictOn}
 use Rattle.c_tracker.proofs.Answer as Answer-T
 use Rattle.c_tracker.proofs.Answer.Laws as Answer-L
 use Rattle.c_tracker.specs.declared.Answer.{Answer}
@@ -79,6 +79,9 @@ module _ {M : Type 1} (𝓤 : URA M) (H : Heap 𝓤) (A : Atoms 𝓤) (W : Given
   abbrev made : Answer
   made = predictAnswer h0 p1
 
+  abbrev also : Type 0
+  also = Heeded (predictOn h0 p1)
+
   abbrev Post : Val → SProp 𝓤
   Post = walkOf 𝓤 H A this.ended stayed (this.clauses 𝓤 H A at-mem run) .post (((κ0, tt), (q0, tt), tt, x, at), tt)
 
@@ -89,10 +92,10 @@ module _ {M : Type 1} (𝓤 : URA M) (H : Heap 𝓤) (A : Atoms 𝓤) (W : Given
   part1 : (r : Answer) (v : Val) → Is Answer-T.the-row r (v ∷ []) → Is u32 (r .«code») ((uint-vals w32) (r .«code»))
   part1 r v is = LL.owed Answer-T.the-type Answer-L.the-laws r _ is .1 .0
 
-  exits : (r : Answer) → r ≡ made → Is u32 (r .«code») ((uint-vals w32) (r .«code»)) → ent 𝓤 (⋆ 𝓤 H A (‵ (fobs γ0 (PkTracker-T.the-row .coded .code (r .«tracker»))) ∷ ‵ (fbor κ0 (Body (mem PkTracker-T.the-row) b0 o0 γ0)) ∷ ‵ (flft κ0 q0) ∷ [])) (Post (only ((uint-vals w32) (r .«code»))))
+  exits : (r : Answer) → ((r ≡ made) × also) → Is u32 (r .«code») ((uint-vals w32) (r .«code»)) → ent 𝓤 (⋆ 𝓤 H A (‵ (fobs γ0 (PkTracker-T.the-row .coded .code (r .«tracker»))) ∷ ‵ (fbor κ0 (Body (mem PkTracker-T.the-row) b0 o0 γ0)) ∷ ‵ (flft κ0 q0) ∷ [])) (Post (only ((uint-vals w32) (r .«code»))))
   exits r e gk =
       qed W (‵ (fobs γ0 (PkTracker-T.the-row .coded .code (r .«tracker»))) ∷ ‵ (fbor κ0 (Body (mem PkTracker-T.the-row) b0 o0 γ0)) ∷ ‵ (flft κ0 q0) ∷ []) ∵
-      suffices ! _ (ends-at 𝓤 H A this.ended stayed (this.clauses 𝓤 H A at-mem run) W (((κ0, tt), (q0, tt), tt, x, at), tt) (only ((uint-vals w32) (r .«code»))) (r .«code») (r .«tracker», (tt, tt)) (tt, (tt, tt))) $ says ! (ap (λ (y : Answer). y .«tracker») e, ap (λ (y : Answer). y .«code») e) $
+      suffices ! _ (ends-at 𝓤 H A this.ended stayed (this.clauses 𝓤 H A at-mem run) W (((κ0, tt), (q0, tt), tt, x, at), tt) (only ((uint-vals w32) (r .«code»))) (r .«code») (r .«tracker», (tt, tt)) (tt, (tt, tt))) $ says ! (ap (λ (y : Answer). y .«tracker») (e .0), ap (λ (y : Answer). y .«code») (e .0), e .1) $
       nothing ! $ move ! (3 ∷ 0 ∷ []) $ join ! $ frame ! $ nothing ! $ owned ! i64 (Is i64) (sint-makes 𝓤 H A W w64) p1 _ g1 $ fjoin ! $ move ! (1 ∷ 2 ∷ []) $ feqI ! (List Val) (vptr b0 o0 ∷ []) (vptr b0 o0 ∷ []) refl $ fjoin3 ! $ fjoin ! $ owned ! u32 (Is u32) (uint-makes 𝓤 H A W w32) (r .«code») _ gk $ move ! (1 ∷ 0 ∷ []) $ done !
 
   -- what the callee's triple binds outside, and what it asks: all of it plain data, so it is made of the relations
@@ -104,8 +107,8 @@ module _ {M : Type 1} (𝓤 : URA M) (H : Heap 𝓤) (A : Atoms 𝓤) (W : Given
       qed W (‵ ftrue ∷ []) ∵ nothing ! $ owned ! i64 (Is i64) (sint-makes 𝓤 H A W w64) p1 _ g1 $ fjoin ! $ owned ! PkTracker-T.the-row (Is PkTracker-T.the-row) (LL.makes PkTracker-T.the-type PkTracker-L.the-plain 𝓤 H A) h0 _ gh0 $ fjoin ! $ move ! (1 ∷ 0 ∷ []) $ join ! $ frame ! $ done !
 
   -- of the callee's `ensured`, the clause alone
-  said : (r : Answer) → ent 𝓤 (ensured 𝓤 H A core.ended (core.clauses 𝓤 H A at-mem run) tt (h0, (p1, tt)) tt r) (fact 𝓤 (r ≡ made))
-  said r = exE 𝓤 _ (λ ws. snd∗ 𝓤 (sem 𝓤 H A (lasts core.ended tt (h0, (p1, tt)) ws)) (fact 𝓤 (r ≡ made)))
+  said : (r : Answer) → ent 𝓤 (ensured 𝓤 H A core.ended (core.clauses 𝓤 H A at-mem run) tt (h0, (p1, tt)) tt r) (fact 𝓤 ((r ≡ made) × also))
+  said r = exE 𝓤 _ (λ ws. snd∗ 𝓤 (sem 𝓤 H A (lasts core.ended tt (h0, (p1, tt)) ws)) (fact 𝓤 ((r ≡ made) × also)))
 
   module _ (C : Calls 𝓤 H) (Λ : Loops 𝓤 H) (fm : FmC 𝓤 H (W .laws) C) (known : Triple 𝓤 (C #core) (Core 𝓤 H A at-mem run)) where
     walk : ent 𝓤 (onEntry 𝓤 H A this.signature (κ0, tt) (q0, tt) x at) (WpFn 𝓤 H C Λ code.function (vptr b0 o0 ∷ only ((sint-vals w64) p1) ∷ []) Post)
@@ -122,7 +125,7 @@ module _ {M : Type 1} (𝓤 : URA M) (H : Heap 𝓤) (A : Atoms 𝓤) (W : Given
         nothing ! $ use1 W (raw (Core 𝓤 H A at-mem run .pre to)) (asked gh0) $
         calls-at ! fm (Core 𝓤 H A at-mem run) known to (and-then ! (load ! (from ! (stop !)) (look ! 5 refl)) (and-then ! (load ! (from ! (stop !)) (look ! 9 refl)) (no-more !))) (λ v.
         use1 W (later (some (λ (r : Answer). (‵ ftrue ⊛ ‵ (Answer-T.the-row .own r (v ∷ []))) ⊛ raw (ensured 𝓤 H A core.ended (core.clauses 𝓤 H A at-mem run) tt (h0, (p1, tt)) tt r)))) (id⊢ 𝓤 _) $ await ! tt $ pick ! (λ r.
-        split ! $ move ! (1 ∷ []) $ use1 W (raw (fact 𝓤 (r ≡ made))) (said r) $ heard ! (r ≡ made) (λ e. split ! $ drop ! $
+        split ! $ move ! (1 ∷ []) $ use1 W (raw (fact 𝓤 ((r ≡ made) × also))) (said r) $ heard ! ((r ≡ made) × also) (λ e. split ! $ drop ! $
         facts ! Answer-T.the-row (Is Answer-T.the-row) (shows 𝓤 H A Answer-T.the-row) r (v ∷ []) (λ is.
         -- what comes back is stored
         land ! (from ! (stop !)) (init ! 6 refl (LL.lawful Answer-T.the-type Answer-L.the-laws 𝓤 H A W .typed r _ is .0)) $ rewrite ! 6 (λ (u : Val). ‵ (fat fullShare Answer-L.mir l3 0 u)) (ap only (LL.tells Answer-T.the-type Answer-L.the-laws r (v ∷ []) is)) refl $

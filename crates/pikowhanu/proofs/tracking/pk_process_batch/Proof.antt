@@ -44,7 +44,7 @@ use denote.Triple.Walked.{says, Stays, stay-ref, stay-none, stay-none-ref, walkO
 use denote.Triple.Clauses.{ensured, lasts}
 use denote.Exit.{yes}
 use Rattle.pikowhanu.proofs.Lent.{opened, given-back, looked, shut-again, gone1}
-use Rattle.c_tracker.specs.Calls.{batchAnswer}
+use Rattle.c_tracker.specs.Calls.{batchAnswer, Heeded, batchOn}
 use Rattle.batch_records.proofs.PkBatch as PkBatch-T
 use Rattle.batch_records.proofs.PkBatch.Laws as PkBatch-L
 use Rattle.batch_records.proofs.PkReport as PkReport-T
@@ -85,6 +85,9 @@ module _ {M : Type 1} (𝓤 : URA M) (H : Heap 𝓤) (A : Atoms 𝓤) (W : Given
     abbrev made : Processed
     made = batchAnswer h0 h1
 
+    abbrev also : Type 0
+    also = Heeded (batchOn h0 h1)
+
     abbrev Post : Val → SProp 𝓤
     Post = walkOf 𝓤 H A this.ended stayed (this.clauses 𝓤 H A at-mem run) .post (((κ0, (κ1, tt)), (q0, (q1, tt)), tt, x, at), tt)
 
@@ -95,10 +98,10 @@ module _ {M : Type 1} (𝓤 : URA M) (H : Heap 𝓤) (A : Atoms 𝓤) (W : Given
     part1 : (r : Processed) (v : Val) → Is Processed-T.the-row r (v ∷ []) → Is PkReport-T.the-row (r .«report») ((LL.vals PkReport-T.the-type PkReport-L.the-laws) (r .«report»))
     part1 r v is = LL.owed Processed-T.the-type Processed-L.the-laws r _ is .1 .0
 
-    exits : (r : Processed) → r ≡ made → Is PkReport-T.the-row (r .«report») ((LL.vals PkReport-T.the-type PkReport-L.the-laws) (r .«report»)) → ent 𝓤 (⋆ 𝓤 H A (‵ (fobs γ0 (PkTracker-T.the-row .coded .code (r .«tracker»))) ∷ ‵ (fbor κ0 (Body (mem PkTracker-T.the-row) b0 o0 γ0)) ∷ ‵ (flft κ0 q0) ∷ ‵ (fres γ1 (PkBatch-T.the-row .coded .code h1)) ∷ ‵ (fshr-bor κ1 (λ s. partAt PkBatch-T.the-row s h1 b1 o1)) ∷ ‵ (flft κ1 q1) ∷ [])) (Post (only ((LL.vals PkReport-T.the-type PkReport-L.the-laws) (r .«report»))))
+    exits : (r : Processed) → ((r ≡ made) × also) → Is PkReport-T.the-row (r .«report») ((LL.vals PkReport-T.the-type PkReport-L.the-laws) (r .«report»)) → ent 𝓤 (⋆ 𝓤 H A (‵ (fobs γ0 (PkTracker-T.the-row .coded .code (r .«tracker»))) ∷ ‵ (fbor κ0 (Body (mem PkTracker-T.the-row) b0 o0 γ0)) ∷ ‵ (flft κ0 q0) ∷ ‵ (fres γ1 (PkBatch-T.the-row .coded .code h1)) ∷ ‵ (fshr-bor κ1 (λ s. partAt PkBatch-T.the-row s h1 b1 o1)) ∷ ‵ (flft κ1 q1) ∷ [])) (Post (only ((LL.vals PkReport-T.the-type PkReport-L.the-laws) (r .«report»))))
     exits r e gk =
         qed W (‵ (fobs γ0 (PkTracker-T.the-row .coded .code (r .«tracker»))) ∷ ‵ (fbor κ0 (Body (mem PkTracker-T.the-row) b0 o0 γ0)) ∷ ‵ (flft κ0 q0) ∷ ‵ (fres γ1 (PkBatch-T.the-row .coded .code h1)) ∷ ‵ (fshr-bor κ1 (λ s. partAt PkBatch-T.the-row s h1 b1 o1)) ∷ ‵ (flft κ1 q1) ∷ []) ∵
-        suffices ! _ (ends-at 𝓤 H A this.ended stayed (this.clauses 𝓤 H A at-mem run) W (((κ0, (κ1, tt)), (q0, (q1, tt)), tt, x, at), tt) (only ((LL.vals PkReport-T.the-type PkReport-L.the-laws) (r .«report»))) (r .«report») (r .«tracker», (tt, tt)) (tt, (tt, tt))) $ says ! (ap (λ (y : Processed). y .«tracker») e, ap (λ (y : Processed). y .«report») e) $
+        suffices ! _ (ends-at 𝓤 H A this.ended stayed (this.clauses 𝓤 H A at-mem run) W (((κ0, (κ1, tt)), (q0, (q1, tt)), tt, x, at), tt) (only ((LL.vals PkReport-T.the-type PkReport-L.the-laws) (r .«report»))) (r .«report») (r .«tracker», (tt, tt)) (tt, (tt, tt))) $ says ! (ap (λ (y : Processed). y .«tracker») (e .0), ap (λ (y : Processed). y .«report») (e .0), e .1) $
         nothing ! $ move ! (6 ∷ 0 ∷ []) $ join ! $ move ! (3 ∷ 0 ∷ []) $ join ! $ frame ! $ nothing ! $ move ! (3 ∷ 4 ∷ []) $ feqI ! (List Val) (vptr b1 o1 ∷ []) (vptr b1 o1 ∷ []) refl $ fjoin3 ! $ fjoin ! $ move ! (1 ∷ 2 ∷ []) $ feqI ! (List Val) (vptr b0 o0 ∷ []) (vptr b0 o0 ∷ []) refl $ fjoin3 ! $ fjoin ! $ owned ! PkReport-T.the-row (Is PkReport-T.the-row) (LL.makes PkReport-T.the-type PkReport-L.the-plain 𝓤 H A) (r .«report») _ gk $ move ! (1 ∷ 0 ∷ []) $ done !
 
     -- what the callee's triple binds outside, and what it asks: all of it plain data, so it is made of the relations
@@ -110,8 +113,8 @@ module _ {M : Type 1} (𝓤 : URA M) (H : Heap 𝓤) (A : Atoms 𝓤) (W : Given
         qed W (‵ ftrue ∷ []) ∵ nothing ! $ owned ! PkBatch-T.the-row (Is PkBatch-T.the-row) (LL.makes PkBatch-T.the-type PkBatch-L.the-plain 𝓤 H A) h1 _ gh1 $ fjoin ! $ owned ! PkTracker-T.the-row (Is PkTracker-T.the-row) (LL.makes PkTracker-T.the-type PkTracker-L.the-plain 𝓤 H A) h0 _ gh0 $ fjoin ! $ move ! (1 ∷ 0 ∷ []) $ join ! $ frame ! $ done !
 
     -- of the callee's `ensured`, the clause alone
-    said : (r : Processed) → ent 𝓤 (ensured 𝓤 H A core.ended (core.clauses 𝓤 H A at-mem run) tt (h0, (h1, tt)) tt r) (fact 𝓤 (r ≡ made))
-    said r = exE 𝓤 _ (λ ws. snd∗ 𝓤 (sem 𝓤 H A (lasts core.ended tt (h0, (h1, tt)) ws)) (fact 𝓤 (r ≡ made)))
+    said : (r : Processed) → ent 𝓤 (ensured 𝓤 H A core.ended (core.clauses 𝓤 H A at-mem run) tt (h0, (h1, tt)) tt r) (fact 𝓤 ((r ≡ made) × also))
+    said r = exE 𝓤 _ (λ ws. snd∗ 𝓤 (sem 𝓤 H A (lasts core.ended tt (h0, (h1, tt)) ws)) (fact 𝓤 ((r ≡ made) × also)))
 
     module _ (C : Calls 𝓤 H) (Λ : Loops 𝓤 H) (fm : FmC 𝓤 H (W .laws) C) (known : Triple 𝓤 (C #core) (Core 𝓤 H A at-mem run)) where
       walk : ent 𝓤 (onEntry 𝓤 H A this.signature (κ0, (κ1, tt)) (q0, (q1, tt)) x at) (WpFn 𝓤 H C Λ code.function (vptr b0 o0 ∷ vptr b1 o1 ∷ []) Post)
@@ -130,7 +133,7 @@ module _ {M : Type 1} (𝓤 : URA M) (H : Heap 𝓤) (A : Atoms 𝓤) (W : Given
           nothing ! $ use1 W (raw (Core 𝓤 H A at-mem run .pre to)) (asked gh0 gh1) $
           calls-at ! fm (Core 𝓤 H A at-mem run) known to (and-then ! (load ! (from ! (stop !)) (look ! 10 refl)) (and-then ! (load ! (from ! (stop !)) (look ! 8 refl)) (no-more !))) (λ v.
           use1 W (later (some (λ (r : Processed). (‵ ftrue ⊛ ‵ (Processed-T.the-row .own r (v ∷ []))) ⊛ raw (ensured 𝓤 H A core.ended (core.clauses 𝓤 H A at-mem run) tt (h0, (h1, tt)) tt r)))) (id⊢ 𝓤 _) $ await ! tt $ pick ! (λ r.
-          split ! $ move ! (1 ∷ []) $ use1 W (raw (fact 𝓤 (r ≡ made))) (said r) $ heard ! (r ≡ made) (λ e. split ! $ drop ! $
+          split ! $ move ! (1 ∷ []) $ use1 W (raw (fact 𝓤 ((r ≡ made) × also))) (said r) $ heard ! ((r ≡ made) × also) (λ e. split ! $ drop ! $
           facts ! Processed-T.the-row (Is Processed-T.the-row) (shows 𝓤 H A Processed-T.the-row) r (v ∷ []) (λ is.
           -- what comes back is stored
           land ! (from ! (stop !)) (init ! 11 refl (LL.lawful Processed-T.the-type Processed-L.the-laws 𝓤 H A W .typed r _ is .0)) $ rewrite ! 11 (λ (u : Val). ‵ (fat fullShare Processed-L.mir l3 0 u)) (ap only (LL.tells Processed-T.the-type Processed-L.the-laws r (v ∷ []) is)) refl $
