@@ -52,7 +52,15 @@ pub fn near_ones_disturb(seed: u64) -> bool {
 /// A tracker after a batch, and the report.
 struct After {
     tracks: BTreeMap<u64, PkTrack>,
+    /// Whether the numbers of the tracks ascend below the next one.
+    ascending: bool,
     report: PkReport,
+}
+
+impl After {
+    fn unmatched(&self) -> &[u64] {
+        &self.report.unmatched_track_ids[..self.report.unmatched_track_count]
+    }
 }
 
 /// What the guarantee says and does not hold. Nothing where the batches are not as it asks.
@@ -71,7 +79,11 @@ fn broken<const NEAR: bool>(case: &FarCase<NEAR>) -> Vec<&'static str> {
     let after = case.batches().map(|batch| {
         let mut tracker = tracker.clone();
         let report = tracker.process_batch(&PkBatch::of(batch));
+        let ids = tracker.tracks[..tracker.track_count].iter().map(|t| t.id);
         After {
+            ascending: ids
+                .chain([tracker.next_track_id])
+                .is_sorted_by(|a, b| a < b),
             tracks: tracks(&tracker),
             report,
         }
@@ -84,33 +96,47 @@ fn tracks(tracker: &PkTracker) -> BTreeMap<u64, PkTrack> {
     tracks.iter().map(|track| (track.id, *track)).collect()
 }
 
+/// The theorem's conclusions, in its order.
 fn concluded(
     stood: &BTreeMap<u64, PkTrack>,
     after: &[After; 2],
     common: &Common,
 ) -> Vec<&'static str> {
-    let mut broken = Vec::new();
     let [a, b] = after;
     if (a.report.code, b.report.code) != (0, 0) {
-        broken.push("a batch that the Rust accepts is refused");
-        return broken;
+        return vec!["a batch that the Rust accepts is refused"];
     }
-    if stood
-        .keys()
-        .any(|id| a.tracks.contains_key(id) != b.tracks.contains_key(id))
-    {
-        broken.push("a track that stood before is kept in one and dropped in the other");
-    } else if stood.keys().any(|id| a.tracks.get(id) != b.tracks.get(id)) {
-        broken.push("a track that stood before ends with other bits");
+    let mut broken = Vec::new();
+    let mut must = |holds: bool, name: &'static str| {
+        if !holds && !broken.contains(&name) {
+            broken.push(name);
+        }
+    };
+    must(a.ascending && b.ascending, "track numbers don't ascend");
+    for id in stood.keys() {
+        let (x, y) = (a.tracks.get(id), b.tracks.get(id));
+        must(
+            x.is_some() == y.is_some(),
+            "a track that stood before is kept in one and dropped in the other",
+        );
+        must(x == y, "a track that stood before ends with other bits");
     }
+    must(
+        a.unmatched() == b.unmatched(),
+        "other tracks took no detection",
+    );
     for (i, j) in &common.pairs {
         let (x, y) = (a.report.associations[*i], b.report.associations[*j]);
-        let told = |x: &_| updated(x);
-        if told(&x) != told(&y) {
-            broken.push("a common detection updates in one, or another track, or at another cost");
-        }
-        if common.others_last && begun(a, *i) != begun(b, *j) {
-            broken.push("a common detection begins a track in one, or another track");
+        must(
+            updated(&x) == updated(&y),
+            "a common detection updates in one, or another track, or at another cost",
+        );
+        if common.others_last {
+            must(
+                begun(a, *i) == begun(b, *j),
+                "a common detection begins a track in one, or another track",
+            );
+            must(x == y, "something else is said of a common detection");
         }
     }
     broken
