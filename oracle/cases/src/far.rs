@@ -1,13 +1,13 @@
 //! Two batches from one state, which differ by far detections alone: what the guarantee speaks of. With near ones let in it must break.
 
-use factor_tracker_core::judge::detections::{verdict, Prior, Rule, Verdict};
+use factor_tracker_core::judge::detections::{verdict, Verdict};
 use factor_tracker_core::judge::state::TrackerState;
 use factor_tracker_core::judge::tracker::Tracker;
 use factor_tracker_core::types::{ObservationBatch3D, Position3DObservation};
 use inputs::Random;
 use trials::{Case, Counts};
 
-use crate::calls::met::{filter_of, plain};
+use crate::calls::met::{filter_of, plain, prior_of, rule_of};
 use crate::calls::{floor, Call, CallsCase};
 
 /// Calls, of which the last two are batches on the state that the others leave.
@@ -79,18 +79,12 @@ impl<const NEAR: bool> FarCase<NEAR> {
     }
 
     fn is_far(&self, moved: &TrackerState, seen: &Position3DObservation) -> bool {
-        let rule = Rule {
-            gate: self.0.settings.gate_squared_mahalanobis,
-            penalty: self.0.settings.class_prior_penalty,
-        };
+        let rule = rule_of(&self.0.settings);
+        // A track whose covariance is no longer positive definite can't be shown to be far from anything.
         moved.tracks.iter().all(|track| {
-            let prior = track.class_prior.map(|(label, confidence)| Prior {
-                label,
-                confidence: f64::from_bits(confidence),
-            });
-            // A covariance that is no longer positive definite is refused by the filter's constructor alone; such a track counts as near.
             filter_of(track).is_some_and(|filter| {
-                let judged = verdict(&filter, track.class_label, prior, &plain(seen), rule);
+                let (class, prior) = (track.class_label, prior_of(track));
+                let judged = verdict(&filter, class, prior, &plain(seen), rule);
                 !matches!(judged, Verdict::Allowed(_))
             })
         })

@@ -5,8 +5,8 @@
 //!
 //! Lines that are read:
 //!   s four words of settings, behind those that are loaded: 26 words in seven lines, zeros after the last. Answers nothing.
-//!   n: a new tracker under the settings that are loaded; none is loaded then. Answers n, the number of the first bad field or 0, 0, and the
-//!     digest of the state. Where a field is bad the tracker before it stays.
+//!   n: a new tracker under the settings that are loaded; none is loaded then. Answers n, 0, 0 and the digest of the state; or n and the number
+//!     of the first bad field, and then the tracker before it stays.
 //!   m time: `predict_to`. Answers m, 0 or the refusal's number, 0, and the digest of the state.
 //!   c track, label, confidence: `set_class_prior`. Answers c in the same way.
 //!   d four words of a detection, behind those that are loaded: 19 words in five lines, a zero after the last. Answers nothing.
@@ -141,11 +141,20 @@ fn float(x: Option<f64>) -> (u64, u64) {
 
 fn settings_words(s: &Cartesian3DTrackerConfig) -> Vec<u64> {
     let c = &s.common;
-    let threshold = float(c.new_track_score_threshold);
-    let window = optional(s.recent_track_window_ns.map(|time| time as u64));
-    let distance = float(s.min_birth_distance_m);
-    let deviation = float(s.velocity_measurement_std);
-    let persistence = optional(s.birth_persistence.map(u64::from));
+    let floats = [
+        s.accel_spectral_density,
+        s.initial_velocity_variance,
+        s.gate_squared_mahalanobis,
+        s.class_prior_penalty,
+        s.birth_candidate_radius_m,
+    ];
+    let optional = [
+        float(c.new_track_score_threshold),
+        optional(s.recent_track_window_ns.map(|time| time as u64)),
+        float(s.min_birth_distance_m),
+        float(s.velocity_measurement_std),
+        optional(s.birth_persistence.map(u64::from)),
+    ];
     let mut words = vec![
         u64::from(c.confirm_min_observation_times),
         c.tentative_timeout_ns as u64,
@@ -155,29 +164,10 @@ fn settings_words(s: &Cartesian3DTrackerConfig) -> Vec<u64> {
     ];
     words.extend(frame(&s.frame_id));
     words.push(s.frame_id.as_str().len() as u64);
-    let floats = [
-        s.accel_spectral_density,
-        s.initial_velocity_variance,
-        s.gate_squared_mahalanobis,
-        s.class_prior_penalty,
-        s.birth_candidate_radius_m,
-    ];
     words.extend(floats.map(f64::to_bits));
     words.push(s.birth_candidate_timeout_ns as u64);
-    words.extend([
-        threshold.1,
-        window.1,
-        distance.1,
-        deviation.1,
-        persistence.1,
-    ]);
-    words.extend([
-        threshold.0,
-        window.0,
-        distance.0,
-        deviation.0,
-        persistence.0,
-    ]);
+    words.extend(optional.map(|(_, word)| word));
+    words.extend(optional.map(|(flag, _)| flag));
     words
 }
 

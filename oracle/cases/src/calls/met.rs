@@ -422,7 +422,7 @@ impl Met<'_> {
         self.counts.add_if(forbids, "pair: classes forbid");
     }
 
-    /// Where one track at the batch's time meets one detection, the pair's distance beside the gate.
+    /// Where one track at the batch's time meets one detection, the pair beside the gate.
     fn gate(&mut self, batch: &ObservationBatch3D, report: &Report) {
         let ([track], [seen]) = (&self.before.tracks[..], &batch.observations[..]) else {
             return;
@@ -433,38 +433,27 @@ impl Met<'_> {
         if track.state_timestamp != batch.timestamp.as_nanos() {
             return;
         }
-        let seen = plain(seen);
-        let (gate, penalty) = (
-            self.settings.gate_squared_mahalanobis,
-            self.settings.class_prior_penalty,
-        );
-        let prior = track.class_prior.map(|(label, confidence)| Prior {
-            label,
-            confidence: f64::from_bits(confidence),
-        });
-        let judged = verdict(
-            &filter,
-            track.class_label,
-            prior,
-            &seen,
-            Rule { gate, penalty },
-        );
+        let (seen, rule) = (plain(seen), rule_of(self.settings));
+        let judged = verdict(&filter, track.class_label, prior_of(track), &seen, rule);
         let alone = report.associations[0].outcome != ObservationOutcome::Updated;
-        let dearer = matches!(judged, Verdict::Allowed(cost) if cost > gate) && alone;
-        self.counts
-            .add_if(judged == Verdict::CostForbids, "pair: the penalty forbids");
-        self.counts
-            .add_if(dearer, "pair: dearer with its penalty than alone");
-        match filter.squared_distance(seen.position, seen.covariance) {
-            Ok(d) if d == gate => self.counts.add("pair: distance equal to the gate"),
-            Ok(d) if d == gate.next_up() => {
-                self.counts.add("pair: distance one double above the gate")
-            }
-            Ok(d) if d == gate.next_down() => {
-                self.counts.add("pair: distance one double below the gate")
-            }
-            _ => (),
-        }
+        let dearer = matches!(judged, Verdict::Allowed(cost) if cost > rule.gate) && alone;
+        let forbids = judged == Verdict::CostForbids;
+        let counts = &mut self.counts;
+        counts.add_if(forbids, "pair: the penalty forbids");
+        counts.add_if(dearer, "pair: dearer with its penalty than alone");
+        let Ok(distance) = filter.squared_distance(seen.position, seen.covariance) else {
+            return;
+        };
+        let (above, below) = (rule.gate.next_up(), rule.gate.next_down());
+        counts.add_if(distance == rule.gate, "pair: distance equal to the gate");
+        counts.add_if(
+            distance == above,
+            "pair: distance one double above the gate",
+        );
+        counts.add_if(
+            distance == below,
+            "pair: distance one double below the gate",
+        );
     }
 
     fn cascade(&mut self, batch: &ObservationBatch3D, report: &Report) {
@@ -543,6 +532,20 @@ fn place(bits: &[u64]) -> [f64; 3] {
 
 fn place_of(seen: &Position3DObservation) -> [f64; 3] {
     std::array::from_fn(|i| seen.position[i])
+}
+
+pub(crate) fn rule_of(settings: &Cartesian3DTrackerConfig) -> Rule {
+    Rule {
+        gate: settings.gate_squared_mahalanobis,
+        penalty: settings.class_prior_penalty,
+    }
+}
+
+pub(crate) fn prior_of(track: &TrackState) -> Option<Prior> {
+    track.class_prior.map(|(label, confidence)| Prior {
+        label,
+        confidence: f64::from_bits(confidence),
+    })
 }
 
 pub(crate) fn filter_of(track: &TrackState) -> Option<Filter> {

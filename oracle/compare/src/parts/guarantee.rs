@@ -96,50 +96,60 @@ fn tracks(tracker: &PkTracker) -> BTreeMap<u64, PkTrack> {
     tracks.iter().map(|track| (track.id, *track)).collect()
 }
 
-/// The theorem's conclusions, in its order.
+/// The theorem's conclusions that do not hold.
 fn concluded(
     stood: &BTreeMap<u64, PkTrack>,
-    after: &[After; 2],
+    [a, b]: &[After; 2],
     common: &Common,
 ) -> Vec<&'static str> {
-    let [a, b] = after;
-    if (a.report.code, b.report.code) != (0, 0) {
-        return vec!["a batch that the Rust accepts is refused"];
-    }
-    let mut broken = Vec::new();
-    let mut must = |holds: bool, name: &'static str| {
-        if !holds && !broken.contains(&name) {
-            broken.push(name);
-        }
-    };
-    must(a.ascending && b.ascending, "track numbers don't ascend");
+    let mut said = vec![
+        (
+            (a.report.code, b.report.code) == (0, 0),
+            "a batch that the Rust accepts is refused",
+        ),
+        (a.ascending && b.ascending, "track numbers don't ascend"),
+        (
+            a.unmatched() == b.unmatched(),
+            "other tracks took no detection",
+        ),
+    ];
     for id in stood.keys() {
         let (x, y) = (a.tracks.get(id), b.tracks.get(id));
-        must(
+        said.push((
             x.is_some() == y.is_some(),
             "a track that stood before is kept in one and dropped in the other",
-        );
-        must(x == y, "a track that stood before ends with other bits");
+        ));
+        said.push((x == y, "a track that stood before ends with other bits"));
     }
-    must(
-        a.unmatched() == b.unmatched(),
-        "other tracks took no detection",
-    );
-    for (i, j) in &common.pairs {
-        let (x, y) = (a.report.associations[*i], b.report.associations[*j]);
-        must(
+    let told = common.pairs.iter();
+    said.extend(told.flat_map(|pair| of_common(a, b, *pair, common.others_last)));
+    let mut broken: Vec<_> = said.into_iter().filter(|(holds, _)| !holds).collect();
+    broken.dedup();
+    broken.into_iter().map(|(_, name)| name).collect()
+}
+
+/// What holds of a common detection.
+fn of_common(
+    a: &After,
+    b: &After,
+    (i, j): (usize, usize),
+    others_last: bool,
+) -> [(bool, &'static str); 3] {
+    let (x, y) = (a.report.associations[i], b.report.associations[j]);
+    [
+        (
             updated(&x) == updated(&y),
             "a common detection updates in one, or another track, or at another cost",
-        );
-        if common.others_last {
-            must(
-                begun(a, *i) == begun(b, *j),
-                "a common detection begins a track in one, or another track",
-            );
-            must(x == y, "something else is said of a common detection");
-        }
-    }
-    broken
+        ),
+        (
+            !others_last || begun(a, i) == begun(b, j),
+            "a common detection begins a track in one, or another track",
+        ),
+        (
+            !others_last || x == y,
+            "something else is said of a common detection",
+        ),
+    ]
 }
 
 /// The track that a detection updates, and the cost.

@@ -5,7 +5,6 @@ use std::collections::BTreeSet;
 use super::report::Report;
 use super::state::TrackerState;
 use super::{panics, refusal, settings, PLACES};
-use crate::error::{InputError, NumericError, TrackerError};
 use crate::tracker::{
     BatchReport3D, Cartesian3DTracker, Cartesian3DTrackerConfig, ObservationAssociation,
     ObservationOutcome,
@@ -183,7 +182,7 @@ impl Tracker {
                 left: None,
             }),
             Ok(Err(error)) => Err(Stopped {
-                stage: stage_of(&error),
+                stage: stage_of(refusal::place(&error)),
                 number: refusal::of(&error),
                 place: refusal::place(&error),
                 left: Some(Box::new(tracker)),
@@ -234,23 +233,9 @@ impl Tracker {
 }
 
 /// The Rust names the place of an error by its context.
-fn stage_of(error: &TrackerError) -> Stage {
-    let context = match error {
-        TrackerError::Input(
-            InputError::FrameMismatch { .. }
-            | InputError::TimestampWentBackwards { .. }
-            | InputError::DuplicateBatch { .. },
-        ) => return Stage::Checks,
-        TrackerError::Input(
-            InputError::NonFiniteValue { context } | InputError::InvalidCovariance { context, .. },
-        )
-        | TrackerError::Numeric(
-            NumericError::NotPositiveDefinite { context }
-            | NumericError::NonFiniteResult { context },
-        ) => *context,
-        _ => return Stage::Steps,
-    };
-    match context {
+fn stage_of(place: &str) -> Stage {
+    match place {
+        "frame" | "time" | "sequence" => Stage::Checks,
         "position3d position" | "position3d velocity" | "position3d measurement covariance" => {
             Stage::Checks
         }
