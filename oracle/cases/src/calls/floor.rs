@@ -213,13 +213,15 @@ impl Floor {
         let mut observations = self.walk(random);
         let more = match self.mood {
             Mood::Crowded => random.below(30),
-            Mood::Full | Mood::Neighbours => one_of(random, &[1, 2, 4, 32, 60, 63, 64, 65]),
+            Mood::Full | Mood::Neighbours => self.to_the_limit(random),
             Mood::Huge | Mood::Grid | Mood::Singular => random.below(5),
             _ => random.below(3),
         };
         observations.extend((0..more).map(|_| self.clutter(random)));
-        if random.below(8) == 0 {
-            observations.extend(observations.first().cloned());
+        match (random.below(8), self.mood) {
+            (0, _) => observations.extend(observations.first().cloned()),
+            (1..=3, Mood::Full) => observations.extend(self.no_birth(random)),
+            _ => (),
         }
         ObservationBatch3D {
             sensor_id: SensorId::new(10 * self.sensor as u32),
@@ -228,6 +230,24 @@ impl Floor {
             frame_id: self.frame(random),
             observations,
         }
+    }
+
+    /// As many as there are places for, or nearly; then a few. Neighbours need somebody to be there before.
+    fn to_the_limit(&self, random: &mut Random) -> u64 {
+        match (self.sequences[self.sensor], self.mood) {
+            (0..=2, Mood::Neighbours) => 0,
+            (0..=2, _) | (3..=4, Mood::Neighbours) => one_of(random, &[32, 60, 62, 63, 64, 65]),
+            _ => one_of(random, &[1, 1, 2, 3, 4]),
+        }
+    }
+
+    /// One with which no track can begin, where no others of its kind are.
+    fn no_birth(&self, random: &mut Random) -> Option<Position3DObservation> {
+        let begun = self.sequences[self.sensor] > 2;
+        begun.then(|| Position3DObservation {
+            velocity: Some(vector2([1.0, 0.0])),
+            ..self.clutter(random)
+        })
     }
 
     fn frame(&self, random: &mut Random) -> FrameId {

@@ -176,8 +176,7 @@ pub fn dressed(random: &mut Random, mood: Mood, place: [f64; 3]) -> Position3DOb
             1 => 0.3,
             _ => floats::unit(random),
         }),
-        velocity: sometimes(random, |random| velocity(random, mood))
-            .filter(|_| !plain || (mood == Mood::Full && random.below(40) == 0)),
+        velocity: sometimes(random, |random| velocity(random, mood)).filter(|_| !plain),
         ..detection(place, spread(random, mood))
     }
 }
