@@ -126,12 +126,13 @@ impl CallsCase {
 impl Case for CallsCase {
     type Reply = Vec<CallReply>;
 
-    /// The default settings.
+    /// The default settings, and the specification's distance that is equal to the gate.
     fn fixed() -> Vec<Self> {
-        vec![CallsCase {
-            settings: Cartesian3DTrackerConfig::default(),
-            calls: Vec::new(),
-        }]
+        let settings = Cartesian3DTrackerConfig::default();
+        let calls = Vec::new();
+        let mut cases = vec![CallsCase { settings, calls }];
+        cases.extend(floor::at_gates_of_one());
+        cases
     }
 
     fn random(random: &mut Random) -> Self {
@@ -188,25 +189,16 @@ impl Case for CallsCase {
     }
 }
 
-/// What differs in two replies: the answers, or else one field of the states.
+/// What differs in two replies: the answers, one field of the states, or what the call may not touch.
 fn parted(ours: &CallReply, theirs: &CallReply) -> String {
-    let (
-        CallReply {
-            answer: a,
-            state: Some(s),
-            kept: true,
-        },
-        CallReply {
-            answer: b,
-            state: Some(t),
-            kept: true,
-        },
-    ) = (ours, theirs)
-    else {
+    let (Some(s), Some(t)) = (&ours.state, &theirs.state) else {
         return side_by_side("replies", ours, theirs);
     };
-    if a != b {
-        return side_by_side("answers", a, b);
+    if ours.answer != theirs.answer {
+        return side_by_side("answers", &ours.answer, &theirs.answer);
+    }
+    if s == t {
+        return "what the call may not touch was touched".to_string();
     }
     if s.tracks != t.tracks {
         return format!("tracks: {}", words::first_difference(&s.tracks, &t.tracks));

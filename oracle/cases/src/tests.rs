@@ -284,6 +284,13 @@ fn replies_to_calls_are_told_apart() {
     state.next_track_id += 1;
     let told = CallsCase::told_apart(&ours, &theirs);
     assert!(told.starts_with("after call 2\nnext number"), "{told}");
+    let mut touched = theirs.clone();
+    touched[2].kept = false;
+    let told = CallsCase::told_apart(&touched, &theirs);
+    assert_eq!(
+        told,
+        "after call 2\nwhat the call may not touch was touched"
+    );
     ours[1].answer = Answer::Refused(99);
     let told = CallsCase::told_apart(&ours, &theirs);
     assert!(
@@ -292,4 +299,17 @@ fn replies_to_calls_are_told_apart() {
     );
     ours.truncate(1);
     assert!(CallsCase::told_apart(&ours, &theirs).contains("no reply"));
+}
+
+/// The specification's: a distance equal to the gate pairs, and one a double above it doesn't.
+#[test]
+fn the_gate_of_one() {
+    let paired = |case: &CallsCase| match &case.judged()[2].answer {
+        Answer::Reported(report) => report.associations[0].cost,
+        _ => None,
+    };
+    let fixed = CallsCase::fixed();
+    let found: Vec<_> = fixed[1..].iter().map(paired).collect();
+    let one = Some(1.0_f64.to_bits());
+    assert_eq!(found, [one, one, None]);
 }

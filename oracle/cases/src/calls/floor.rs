@@ -61,6 +61,12 @@ pub fn calls(random: &mut Random) -> CallsCase {
     }
 }
 
+/// A detection at a distance of 1 from the only track, with the gate there and at the doubles beside it.
+pub fn at_gates_of_one() -> Vec<CallsCase> {
+    let gates = [1.0_f64, 1.0_f64.next_up(), 1.0_f64.next_down()];
+    gates.into_iter().map(moods::at_a_gate).collect()
+}
+
 /// Settings of any kind, or good ones with one field spoilt.
 fn any_settings(random: &mut Random) -> Cartesian3DTrackerConfig {
     if random.below(2) == 0 {

@@ -190,8 +190,12 @@ fn velocity(random: &mut Random, mood: Mood) -> Vector2<f64> {
     }
 }
 
+/// The same variance in each direction.
+fn level(x: f64) -> Rows<3> {
+    [[x, 0.0, 0.0], [0.0, x, 0.0], [0.0, 0.0, x]]
+}
+
 fn spread(random: &mut Random, mood: Mood) -> Rows<3> {
-    let level = |x: f64| [[x, 0.0, 0.0], [0.0, x, 0.0], [0.0, 0.0, x]];
     match (random.below(12), mood) {
         (_, Mood::Full | Mood::Neighbours | Mood::Sensors) => level(0.04),
         (0..=5, Mood::Singular) => level(2.0_f64.powi(random.below(600) as i32 - 400)),
@@ -234,6 +238,21 @@ pub fn at_the_gate(random: &mut Random) -> CallsCase {
     }
     calls.push(Call::ProcessBatch(alone(&settings, 2, second)));
     calls.extend([Call::PredictTo(0), first(3), Call::PredictTo(100_000_000)]);
+    CallsCase { settings, calls }
+}
+
+/// A variance of 3, one of 1 measured 2 away: the distance is 1.
+pub fn at_a_gate(gate: f64) -> CallsCase {
+    let mut settings = Cartesian3DTrackerConfig {
+        gate_squared_mahalanobis: gate,
+        ..Cartesian3DTrackerConfig::default()
+    };
+    settings.common.new_track_score_threshold = None;
+    let seen = |x, variance| detection([x, 0.0, 0.0], level(variance));
+    let calls = vec![
+        Call::ProcessBatch(alone(&settings, 1, seen(0.0, 3.0))),
+        Call::ProcessBatch(alone(&settings, 2, seen(2.0, 1.0))),
+    ];
     CallsCase { settings, calls }
 }
 
