@@ -4,7 +4,7 @@ ghost use Rattle.matrix.specs.Matrix.{congruence};
 ghost use Rattle.matrix.specs.Flat.{rowsOf};
 ghost use Rattle.cholesky.specs.Factor.{columnsOf2, columnsOf3, replyOfFactor2, replyOfFactor3};
 ghost use Rattle.math.specs.Linalg.{replyOfDistance};
-ghost use Rattle.models.specs.Models.{selection};
+ghost use Rattle.models.specs.Models.{transition, selection};
 ghost use Rattle.math.specs.Refusing.{numberOf};
 ghost use Rattle.number.specs.Reply.{refused, andThen};
 ghost use Rattle.filter.specs.Kalman.{estimate, finished, moved, innovation, spread, corrected, gained, measuredWith, measuredBy, measured};
@@ -68,14 +68,14 @@ fn finish(f: KalmanFilter, x: [f64; 6], p: [[f64; 6]; 6]) -> Step
     }
 }
 
-// The filter moved by the transition phi with the noise q.
-fn move_by(f: KalmanFilter, phi: [[f64; 6]; 6], q: [[f64; 6]; 6]) -> Step
-    ensures { λ r. ⌜ Answer f r (stored (finished 6 (moved 6 phi q (estimateOf f)))) ⌝ }
+// The filter moved by dt with the noise q.
+fn move_by(f: KalmanFilter, dt: f64, q: [[f64; 6]; 6]) -> Step
+    ensures { λ r. ⌜ Answer f r (stored (finished 6 (moved 6 (transition 3 dt) q (estimateOf f)))) ⌝ }
 {
     let x = f.state;
     let flat = f.covariance;
-    let state = product::mul_6x6_vector(phi, x);
-    let spread = congruence::congruence_6x6(phi, flat::rows_6x6(flat));
+    let state = product::mul_6x6_vector(models::cv_f6(dt), x);
+    let spread = transition::moved_spread(dt, flat::rows_6x6(flat));
     let covariance = symmetrized::symmetrized_sum6(spread, q);
     finish(f, state, covariance)
 }
@@ -86,7 +86,7 @@ pub fn predict(f: KalmanFilter, dt: f64, q: f64) -> Step
 {
     let noise = models::cv_q6(dt, q);
     if finite6::is_finite_6x6(noise) {
-        move_by(f, models::cv_f6(dt), noise)
+        move_by(f, dt, noise)
     } else {
         refuse(f, math::linalg::Refusal::NonFiniteValue)
     }

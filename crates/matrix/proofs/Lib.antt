@@ -1,3 +1,4 @@
 pub mod All
 pub mod Terms
 pub mod Tabulated
+pub mod Entries

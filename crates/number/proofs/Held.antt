@@ -87,7 +87,7 @@ of-value f (fin t (suc n) g) s m e p q v = same-value f t s n m g e p q (v .0) (
 -- ---- rounded to itself
 
 -- m * 2 ^ e in units of the smallest value is m * 2 ^ j
-units-of : (l : ℕ) (e : ℤ) → down e ≤ 2 ^ l → (j : ℕ) × ((m : ℕ) → m * up e * 2 ^ l ≡ m * 2 ^ j * down e)
+pub units-of : (l : ℕ) (e : ℤ) → down e ≤ 2 ^ l → (j : ℕ) × ((m : ℕ) → m * up e * 2 ^ l ≡ m * 2 ^ j * down e)
 units-of l (pos k) h = (k + l, λ m. mul-assoc m (2 ^ k) (2 ^ l) ∙ ap (λ (x : ℕ). m * x) (sym (pow-add 2 k l)) ∙ sym (mul-one (m * 2 ^ (k + l))))
 units-of l (negsuc k) h =
     let le : suc k ≤ l = pow-below (suc k) l h in

@@ -6,3 +6,4 @@ pub mod Finite
 pub mod Equal
 pub mod Plus
 pub mod Replies
+pub mod Minus

@@ -7,12 +7,15 @@ use Prim.Native.Nat.{ℕ, suc, _+_, _≤_, _<_}
 use native.Mathlib.Omega.{arith}
 use lib.Dec.{T}
 use lib.Ieee.{Float, nan, binary64, add, mul, lt, fits}
+use lib.Ieee.Fits.{add-fits}
 use Rattle.matrix.specs.Matrix.{Matrix, item, row, entry, tabulate, nought, sumTo, rowTimes, product, transposed, congruence}
 use Rattle.models.specs.Models.{selection}
 use Rattle.selected.specs.Units.{unitAt, readRow, readRows, isPlain}
-use Rattle.selected.proofs.Picks.{Held, Near, isMinusZero, near-held, near-plus, no-minus-plus, plus-held}
+use Rattle.selected.proofs.Picks.{Held, Near, near-held, near-plus, no-minus-plus}
+use Rattle.number.proofs.Minus.{isMinusZero}
 use Rattle.selected.proofs.Selected.{selected-near, selected-plus, selected-itself, turned}
 use Rattle.matrix.proofs.Tabulated.{getD-tabulate, tabulate-same, sum-same}
+use Rattle.matrix.proofs.Entries.{product-entry, transposed-entry}
 use Rattle.selected.proofs.Plain.{plain-finite, plain-above}
 
 -- an entry of the matrix that selects the k items from `first` on
@@ -24,11 +27,7 @@ module _ (k n first : ℕ) where
       ∙ getD-tabulate nan n j (λ j. unitAt (i + first) j) hj
 
   pub turned-entry : (i j : ℕ) → i < n → j < k → entry (transposed k n (selection k n first)) i j ≡ unitAt (j + first) i
-  unfolding transposed
-  turned-entry i j hi hj =
-      ap (λ r. item r j) (getD-tabulate [] n i (λ j. tabulate k (λ i. entry (selection k n first) i j)) hi)
-      ∙ getD-tabulate nan k j (λ j. entry (selection k n first) j i) hj
-      ∙ selection-entry j i hj hi
+  turned-entry i j hi hj = transposed-entry k n (selection k n first) i j hi hj ∙ selection-entry j i hj hi
 
 module _ (k l first : ℕ) (room : k + first ≤ suc l) (p : Matrix) (fit : (i j : ℕ) → i < suc l → j < suc l → T (fits binary64 (entry p i j))) (plain : isPlain (suc l) p ≡ true) where
   held : (i j : ℕ) → i ≤ l → j ≤ l → Held (entry p i j)
@@ -45,10 +44,8 @@ module _ (k l first : ℕ) (room : k + first ≤ suc l) (p : Matrix) (fit : (i j
   left i m = sumTo l (λ q. mul binary64 (unitAt (i + first) q) (entry p q m))
 
   left-entry : (i m : ℕ) → i < k → m ≤ l → entry (product k (suc l) (suc l) h p) i m ≡ left i m
-  unfolding product rowTimes
   left-entry i m hi hm =
-      ap (λ r. item r m) (getD-tabulate [] k i (λ i. rowTimes (suc l) (suc l) (row h i) p) hi)
-      ∙ getD-tabulate nan (suc l) m (λ j. sumTo l (λ q. mul binary64 (entry h i q) (entry p q j))) (omega (arith, hm))
+      product-entry k (suc l) (suc l) h p i m hi (omega (arith, hm))
       ∙ sum-same l (λ q. mul binary64 (entry h i q) (entry p q m)) (λ q. mul binary64 (unitAt (i + first) q) (entry p q m))
       (λ q b. ap (λ (x : Float). mul binary64 x (entry p q m)) (selection-entry k (suc l) first i q hi (omega (arith, b))))
 
@@ -66,7 +63,7 @@ module _ (k l first : ℕ) (room : k + first ≤ suc l) (p : Matrix) (fit : (i j
   -- +0 added once more changes nothing
   read-again : (i j : ℕ) → i ≤ l → j ≤ l → add binary64 (read i j) nought ≡ read i j
   read-again i j hi hj =
-      let g = held i j hi hj in sym (near-plus (read i j) (read i j) (plus-held (entry p i j) g) (inl refl) (no-minus-plus (entry p i j) g))
+      sym (near-plus (read i j) (read i j) (add-fits binary64 (entry p i j) nought) (inl refl) (no-minus-plus (entry p i j) (held i j hi hj .0)))
 
   spread-entry : (i j : ℕ) → i < k → j < k → sumTo l (λ m. mul binary64 (left i m) (unitAt (j + first) m)) ≡ read (i + first) (j + first)
   spread-entry i j hi hj =
@@ -75,7 +72,7 @@ module _ (k l first : ℕ) (room : k + first ≤ suc l) (p : Matrix) (fit : (i j
       let ha : a ≤ l = omega (arith, hi, room) in
       let hb : b ≤ l = omega (arith, hj, room) in
       turned l b (left i)
-      ∙ selected-itself l b (left i) (λ m q. left-held i m hi q) hb (ap isMinusZero (left-read i j hi hj) ∙ no-minus-plus (entry p a b) (held a b ha hb))
+      ∙ selected-itself l b (left i) (λ m q. left-held i m hi q) hb (ap isMinusZero (left-read i j hi hj) ∙ no-minus-plus (entry p a b) (held a b ha hb .0))
       ∙ ap (λ (x : Float). add binary64 x nought) (left-read i j hi hj)
       ∙ read-again a b ha hb
 

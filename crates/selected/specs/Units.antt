@@ -30,6 +30,10 @@ restRow n k first x i = tabulate n (λ j. cond (ltb j first) (unitAt j i) (cond 
 unfoldable pub lessFrom : ℕ → ℕ → Vector → Vector
 lessFrom n i x = minusVector n (tabulate n (λ j. unitAt j i)) x
 
--- the total is finite, so that each entry is, and the diagonal is above 0
+-- the diagonal is above 0
+abbrev pub isAbove : ℕ → Matrix → Bool
+isAbove n p = allOf n (λ k. lt nought (entry p k k))
+
+-- and the total is finite, so that each entry is
 unfoldable pub isPlain : ℕ → Matrix → Bool
-isPlain n p = finite (total n n p) && allOf n (λ k. lt nought (entry p k k))
+isPlain n p = finite (total n n p) && isAbove n p

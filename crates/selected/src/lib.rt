@@ -3,7 +3,7 @@ ghost use mathlib.Core.Path.{_≡_};
 ghost use Prim.Native.Nat.{_<_};
 ghost use lib.Ieee.{binary64, mul};
 ghost use Rattle.matrix.specs.Matrix.{item, entry, sumOf, rowTimes};
-ghost use Rattle.selected.specs.Units.{unitAt, unitVector, isPlain};
+ghost use Rattle.selected.specs.Units.{unitAt, unitVector, isAbove, isPlain};
 
 // 1 where j is k, else 0.
 pub fn unit(k: usize, j: usize) -> f64
@@ -51,15 +51,21 @@ pub fn row_seen(p: [[f64; 6]; 6], k: usize) -> [f64; 6]
     ]
 }
 
-// Whether the sum of all entries is finite, and the diagonal above 0: then the products with H can be read off.
-pub fn is_plain(p: [[f64; 6]; 6]) -> bool
-    ensures { λ r. ⌜ r ≡ isPlain 6 p ⌝ }
+// Whether the diagonal is above 0.
+pub fn is_above(p: [[f64; 6]; 6]) -> bool
+    ensures { λ r. ⌜ r ≡ isAbove 6 p ⌝ }
 {
-    let above = (p[0][0] > 0.0)
+    (p[0][0] > 0.0)
         & (p[1][1] > 0.0)
         & (p[2][2] > 0.0)
         & (p[3][3] > 0.0)
         & (p[4][4] > 0.0)
-        & (p[5][5] > 0.0);
-    number::float::is_finite(finite6::total_6x6(p)) & above
+        & (p[5][5] > 0.0)
+}
+
+// Whether, beside that, the sum of all entries is finite: then the products with H can be read off.
+pub fn is_plain(p: [[f64; 6]; 6]) -> bool
+    ensures { λ r. ⌜ r ≡ isPlain 6 p ⌝ }
+{
+    number::float::is_finite(finite6::total_6x6(p)) & is_above(p)
 }

@@ -1,9 +1,8 @@
 use mathlib.Core.Path.{_≡_, sym, ap, _∙_}
 use borrow.Author.Needs.{needs}
-use Rattle.matrix.specs.Matrix.{Matrix}
 use Rattle.models.specs.Models.{transition, noise}
 use Rattle.finite.specs.Finite.{finiteMatrix}
-use Rattle.filter.specs.Kalman.{finished, moved, predictReply}
+use Rattle.filter.specs.Kalman.{finished, moved}
 use Rattle.filter.specs.Filter.{estimateOf, stored, predicted}
 use Rattle.filter.proofs.Steps.{answers, stored-refused, finite-noise, infinite-noise}
 use Rattle.filter.proofs.predict.Statement.{statement}
@@ -12,15 +11,14 @@ use Rattle.filter.proofs.predict.Tie as tie
 returns : tie.Need-returns
 unfolding predicted
 returns c =
-    let f6 = c .before in
-    let test = f6 .before .before in
+    let test = c .before .before in
     let made = test .before in
     let s = made .before .args in
-    let f : f6 .cv-f6 .result ≡ transition 3 (s .dt) = f6 .cv-f6 .ensures in
+    let f = transition 3 (s .dt) in
     let q : made .cv-q6 .result ≡ noise 3 (s .dt) (s .q) = made .cv-q6 .ensures in
     answers (c .move-by .ensures)
-    ((λ i. stored (finished 6 (moved 6 (f i) (q i) (estimateOf (s .f)))))
-    ∙ ap stored (finite-noise 6 (transition 3 (s .dt)) (noise 3 (s .dt) (s .q)) (estimateOf (s .f)) (ap (finiteMatrix 6 6) (sym q) ∙ sym (test .is-finite-6x6 .ensures) ∙ f6 .before .if1 .taken)))
+    ((λ i. stored (finished 6 (moved 6 f (q i) (estimateOf (s .f)))))
+    ∙ ap stored (finite-noise 6 f (noise 3 (s .dt) (s .q)) (estimateOf (s .f)) (ap (finiteMatrix 6 6) (sym q) ∙ sym (test .is-finite-6x6 .ensures) ∙ c .before .if1 .taken)))
 
 returns-2 : tie.Need-returns-2
 unfolding predicted
@@ -36,7 +34,6 @@ pub predict-spec : {M : Type 1} → statement M
 predict-spec =
     tie.close
     (tie.spec
-    (λ c κs. search needs)
     (λ c κs. search needs)
     (λ c κs. search needs)
     (λ c κs. search needs)
