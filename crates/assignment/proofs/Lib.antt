@@ -12,3 +12,4 @@ pub mod Calls
 pub mod Listings
 pub mod Answers
 pub mod EachOnce
+pub mod Singles

@@ -1,11 +1,14 @@
 // The row that takes each column, group after group.
 ghost use mathlib.Core.Path.{_≡_};
 ghost use Prim.Native.Nat.{_+_, _*_, _≤_, _<_};
+ghost use lib.Dec.{T};
 ghost use lib.ListN.{length, take, replicate};
+ghost use lib.Ieee.{binary64, fits};
 ghost use Rattle.kuhn_munkres.specs.Binary64.{float};
 ghost use Rattle.kuhn_munkres.specs.Square.{entry};
 ghost use Rattle.kuhn_munkres.specs.Steps.{rows};
 ghost use Rattle.kuhn_munkres.specs.Assignment.{rowsOf, pairing};
+ghost use Rattle.kuhn_munkres.specs.Single.{isSingle, singleRows};
 ghost use Rattle.hungarian.specs.Structs.{squareFrom};
 ghost use Rattle.hungarian.specs.Ends.{endReply};
 ghost use Rattle.assignment.specs.Taking.{takerNumber, takersOf, replyIf, Taken, Call, GroupTaken, AllTaken};
@@ -52,11 +55,39 @@ pub struct Prices {
     pub column: f64,
 }
 
-// The steps on the table in the front of `own`; the rows of the columns into p. False for a step that is not finite.
+// Whether a group is one row and one column, which a comparison settles: the costs are finite, and the column's own is a zero.
+fn is_single(cost: f64, rows: usize, cols: usize, row: f64, col: f64) -> bool
+    ensures { λ r. ⌜ (r ≡ isSingle cost rows cols row col) × T (fits binary64 cost) × T (fits binary64 row) × T (fits binary64 col) ⌝ }
+{
+    (rows == 1) & (cols == 1) & (col == 0.0) & number::float::is_finite(cost + row)
+}
+
+// The rows of the columns for one row and one column: they are paired, unless the row's own cost is less.
+fn lay_single(less: bool, p: &mut [usize; 129])
+    ensures { λ _. ⌜ now (p .exit) ≡ singleRows less ⌝ }
+{
+    let mut q = [0usize; 129];
+    q[0] = 2;
+    if less {
+        q[1] = 2;
+        q[2] = 1;
+    } else {
+        q[1] = 1;
+        q[2] = 2;
+    }
+    *p = q;
+}
+
+// The steps on the table in the front of `own`, which has one place at least; the rows of the columns into p. False for a step that is not finite.
 fn solve_front(own: &[f64], shape: hungarian::Shape, p: &mut [usize; 129]) -> bool
-    requires { ⌜ (shape .rows ≤ 64) × (shape .cols ≤ 64) × (shape .rows * shape .cols ≤ length (now own)) ⌝ }
+    requires { ⌜ (shape .rows ≤ 64) × (shape .cols ≤ 64) × (shape .rows * shape .cols ≤ length (now own)) × (0 < length (now own)) ⌝ }
     ensures { λ ok. ⌜ replyIf ok (now (p .exit)) ≡ endReply (rows float (entry float (squareFrom (take (shape .rows * shape .cols) (now (own .entry))) shape)) (shape .rows + shape .cols) (shape .rows + shape .cols)) ⌝ }
 {
+    let cost = own[0];
+    if is_single(cost, shape.rows, shape.cols, shape.row, shape.col) {
+        lay_single(shape.row < cost, p);
+        return true;
+    }
     let end = shape.rows * shape.cols;
     match hungarian::solve(&own[..end], shape, p) {
         hungarian::Run::Matched => true,

@@ -12,3 +12,4 @@ pub mod Kept
 pub mod Matched
 pub mod Top
 pub mod FarColumns
+pub mod Single

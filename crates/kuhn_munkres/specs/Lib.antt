@@ -6,3 +6,4 @@ pub mod Binary64
 pub mod Groups
 pub mod Takers
 pub mod Assignment
+pub mod Single

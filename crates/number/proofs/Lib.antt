@@ -7,3 +7,4 @@ pub mod Equal
 pub mod Plus
 pub mod Replies
 pub mod Minus
+pub mod Differences

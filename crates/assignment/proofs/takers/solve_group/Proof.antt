@@ -21,7 +21,12 @@ gather-requires : tie.Need-gather-requires
 gather-requires c κs = let s = c .before .before .before .before .before .before .before in let q = s .pre .0 in (q .rows-few, q .columns-few, q .size, s .pre .2, s .pre .3)
 
 solve-front-requires : tie.Need-solve-front-requires
-solve-front-requires c κs = let s = c .before .before .before .before .before .before .before .before .before .before .before in let q = s .pre .0 in group-fits _ _ _ _ _ _ _ _ _ _ (q .rows-few) (q .columns-few) (c .before .before .before .gather .ensures) (c .before .before .before .before .before .before .before .count-named .ensures)
+solve-front-requires c κs =
+    let s = c .before .before .before .before .before .before .before .before .before .before .before in
+    let q = s .pre .0 in
+    let G = c .before .before .before .gather .ensures in
+    let f = group-fits _ _ _ _ _ _ _ _ _ _ (q .rows-few) (q .columns-few) G (c .before .before .before .before .before .before .before .count-named .ensures) in
+    (f .0, f .1, f .2, omega (arith, G .long))
 
 returns-3 : tie.Need-returns-3
 returns-3 c = let s = c .before .before .before .before .before .before .before .before .before .before .before .before .before in let G = c .before .before .before .before .before .gather .ensures in (G .long, G .members-long, group-failed _ _ _ _ _ _ _ _ (s .pre .0) _ (s .pre .1) (c .before .before .before .before .before .before .before .before .before .before .if1 .left) _ (c .before .before .before .before .before .before .before .before .before .count-named .ensures) (c .before .before .before .before .before .before .before .before .if2 .left) _ _ _ G _ (s .pre .4) (rw (not-true (c .before .solve-front .result) (c .if3 .taken)) at (c .before .solve-front .ensures)))
