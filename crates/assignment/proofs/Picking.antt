@@ -14,7 +14,7 @@ use Rattle.number.specs.Float.{largerOf}
 use Rattle.kuhn_munkres.specs.Assignment.{inOne, largest}
 use Rattle.groups.specs.Picks.{picked, ticks}
 use Rattle.groups.proofs.Picking.{picked-on, picked-off, picked-long, ticks-on, ticks-off, ticks-le}
-use Rattle.assignment.specs.Picks.{bears, Laid, groupRow, groupTable, Gathered}
+use Rattle.assignment.specs.Picks.{bears, Laid, groupRow, groupTable, GatheredIn}
 
 -- ---- laying
 pub laid-none : {A : Type 0} (size : ℕ) (l : List A) (k : ℕ) → length l ≡ size → Laid size l l k k []
@@ -57,33 +57,33 @@ laid-join size a b c j k r p q x y = record {
 }
 
 -- what is gathered of the first i rows
-pub record Gathering (costs : List Float) (n m : ℕ) (rowNames columnNames : List ℕ) (g i : ℕ) (own₀ own : List Float) (members₀ members : List ℕ) (k r : ℕ) : Type 0 where
+pub record Gathering (size : ℕ) (costs : List Float) (n m : ℕ) (rowNames columnNames : List ℕ) (g i : ℕ) (own₀ own : List Float) (members₀ members : List ℕ) (k r : ℕ) : Type 0 where
   pub count : r ≡ ticks (bears rowNames g) i
   pub full : k ≡ r * ticks (bears columnNames g) m
-  pub table : Laid 4096 own₀ own 0 k (inOne (groupTable costs m rowNames columnNames g i))
+  pub table : Laid size own₀ own 0 k (inOne (groupTable costs m rowNames columnNames g i))
   pub rows : Laid 64 members₀ members 0 r (picked (bears rowNames g) (λ x. x) i)
 
-module _ (costs : List Float) (n m : ℕ) (rowNames columnNames : List ℕ) (g : ℕ) (own₀ : List Float) (members₀ : List ℕ) where
-  pub gathering-none : length own₀ ≡ 4096 → length members₀ ≡ 64 → Gathering costs n m rowNames columnNames g 0 own₀ own₀ members₀ members₀ 0 0
+module _ (size : ℕ) (costs : List Float) (n m : ℕ) (rowNames columnNames : List ℕ) (g : ℕ) (own₀ : List Float) (members₀ : List ℕ) where
+  pub gathering-none : length own₀ ≡ size → length members₀ ≡ 64 → Gathering size costs n m rowNames columnNames g 0 own₀ own₀ members₀ members₀ 0 0
   unfolding picked ticks inOne
-  gathering-none h l = record { count = refl; full = sym (zero-mul (ticks (bears columnNames g) m)); table = laid-none 4096 own₀ 0 h; rows = laid-none 64 members₀ 0 l }
+  gathering-none h l = record { count = refl; full = sym (zero-mul (ticks (bears columnNames g) m)); table = laid-none size own₀ 0 h; rows = laid-none 64 members₀ 0 l }
 
-  module _ (i : ℕ) (own : List Float) (members : List ℕ) (k r : ℕ) (hn : n ≤ 64) (hm : m ≤ 64) (hi : i < n) (t : Gathering costs n m rowNames columnNames g i own₀ own members₀ members k r) where
+  module _ (i : ℕ) (own : List Float) (members : List ℕ) (k r : ℕ) (hn : n ≤ 64) (hm : m ≤ 64) (hi : i < n) (t : Gathering size costs n m rowNames columnNames g i own₀ own members₀ members k r) where
     few : r ≤ i
     few = rw (t .count) (ticks-le (bears rowNames g) i)
 
-    pub gather-room : k + m ≤ 4096
+    pub gather-room : k + m ≤ n * m
     gather-room =
         let c = ticks (bears columnNames g) m in
         let cm : c ≤ m = ticks-le (bears columnNames g) m in
         let a : r * c ≤ r * m = mul-le-mul-left r cm in
-        let b : suc r * m ≤ 64 * m = mul-le-mul-right m (let f = few in let x : suc r ≤ 64 = omega arith in x) in
+        let b : suc r * m ≤ n * m = mul-le-mul-right m (let f = few in let x : suc r ≤ n = omega arith in x) in
         omega (arith, t .full, suc-mul r m)
 
     pub gather-member : r < 64
     gather-member = let f = few in omega arith
 
-    pub gathering-skip : bears rowNames g i ≡ false → Gathering costs n m rowNames columnNames g (i + 1) own₀ own members₀ members k r
+    pub gathering-skip : bears rowNames g i ≡ false → Gathering size costs n m rowNames columnNames g (i + 1) own₀ own members₀ members k r
     gathering-skip e = record {
       count = t .count ∙ sym (ticks-off (bears rowNames g) i e);
       full = t .full;
@@ -91,13 +91,13 @@ module _ (costs : List Float) (n m : ℕ) (rowNames columnNames : List ℕ) (g :
       rows = rw (picked-off (bears rowNames g) (λ x. x) i e) (t .rows);
     }
 
-    pub gathering-take : bears rowNames g i ≡ true → (own' : List Float) (k' : ℕ) → Laid 4096 own own' k k' (groupRow costs m columnNames g i) → Gathering costs n m rowNames columnNames g (i + 1) own₀ own' members₀ (set members r i) k' (r + 1)
+    pub gathering-take : bears rowNames g i ≡ true → (own' : List Float) (k' : ℕ) → Laid size own own' k k' (groupRow costs m columnNames g i) → Gathering size costs n m rowNames columnNames g (i + 1) own₀ own' members₀ (set members r i) k' (r + 1)
     gathering-take e own' k' q = record {
       count = ap (λ (x : ℕ). x + 1) (t .count) ∙ sym (ticks-on (bears rowNames g) i e);
       full = q .end ∙ rw (picked-long (bears columnNames g) (λ j. getD costs (i * m + j) nan) m, add-one r, suc-mul r (ticks (bears columnNames g) m)) (let f = t .full in omega arith);
-      table = rw (picked-on (bears rowNames g) (groupRow costs m columnNames g) i e, inOne-snoc (groupTable costs m rowNames columnNames g i) (groupRow costs m columnNames g i)) (laid-join 4096 own₀ own own' 0 k k' _ _ (t .table) q);
+      table = rw (picked-on (bears rowNames g) (groupRow costs m columnNames g) i e, inOne-snoc (groupTable costs m rowNames columnNames g i) (groupRow costs m columnNames g i)) (laid-join size own₀ own own' 0 k k' _ _ (t .table) q);
       rows = rw (picked-on (bears rowNames g) (λ x. x) i e) (laid-more 64 members₀ members 0 r _ i gather-member (t .rows));
     }
 
-  pub gathered : (own : List Float) (members : List ℕ) (k r : ℕ) → Gathering costs n m rowNames columnNames g n own₀ own members₀ members k r → Gathered costs n m rowNames columnNames g own members r
+  pub gathered : (own : List Float) (members : List ℕ) (k r : ℕ) → Gathering size costs n m rowNames columnNames g n own₀ own members₀ members k r → GatheredIn size costs n m rowNames columnNames g own members r
   gathered own members k r t = record { long = t .table .long; members-long = t .rows .long; count = t .count; table = rw (← t .full) (t .table .is); members-are = t .rows .is }

@@ -5,7 +5,7 @@ use mathlib.Core.List.{List, [], _∷_, map}
 use mathlib.Core.Option.{Option, none, some}
 use Prim.Native.Nat.{ℕ, zero, suc, _+_, _-_, _*_, _≤_, _<_}
 use native.Mathlib.Numerals.{add-one}
-use native.Mathlib.Nat.{mul-le-mul-right}
+use native.Mathlib.Nat.{mul-le-mul-left, mul-le-mul-right}
 use native.Mathlib.Omega.{arith}
 use lib.Dec.{eqb}
 use lib.ListN.{getD, length, take, drop}
@@ -30,8 +30,8 @@ use Rattle.hungarian.proofs.Replies.{checked}
 use Rattle.groups.specs.Picks.{ticks}
 use Rattle.groups.specs.Solvers.{ownReply}
 use Rattle.groups.proofs.Picking.{picked-long, picked-all, ticks-le}
-use Rattle.assignment.specs.Picks.{bears, groupRow, groupTable, Gathered}
-use Rattle.assignment.specs.Taking.{takersOf, replyIf, Call, Taken, GroupTaken, AllTaken}
+use Rattle.assignment.specs.Picks.{bears, groupRow, groupTable, GatheredIn}
+use Rattle.assignment.specs.Taking.{takersOf, replyIf, Call, Room, Taken, GroupTaken, AllTaken}
 use Rattle.assignment.proofs.Groupings.{table-is, members-is, unborne, no-column, some-column, some-row, taken-is}
 
 -- ---- what the run ends with
@@ -93,7 +93,7 @@ module _ (costs : List Float) (n m : ℕ) (rowNames columnNames : List ℕ) (far
   pub group-empty : (before : List ℕ) (c : ℕ) → length before ≡ 64 → c ≡ ticks (bears columnNames g) m → c ≡ 0 → GroupTaken costs n m far rowCost columnCost g true before before
   group-empty before c l e z = nothing before l (no-column costs n m rowNames columnNames (C .rows-few) (C .columns-few) (C .size) (C .named) g hg (sym e ∙ z))
 
-  module _ (borne : getD rowNames g 0 ≡ g) (c : ℕ) (c-is : c ≡ ticks (bears columnNames g) m) (c-some : c ≡ 0 → ⊥) (own : List Float) (members : List ℕ) (r : ℕ) (G : Gathered costs n m rowNames columnNames g own members r) where
+  module _ (borne : getD rowNames g 0 ≡ g) (c : ℕ) (c-is : c ≡ ticks (bears columnNames g) m) (c-some : c ≡ 0 → ⊥) (size : ℕ) (own : List Float) (members : List ℕ) (r : ℕ) (G : GatheredIn size costs n m rowNames columnNames g own members r) where
     abbrev Q : Square Float
     Q = record { costs = take (r * c) own; rows = r; cols = c; far = far; row = rowCost; col = columnCost }
 
@@ -146,12 +146,19 @@ module _ (costs : List Float) (n m : ℕ) (rowNames columnNames : List ℕ) (far
         }
 
 -- a group fits the square
-pub group-fits : (costs : List Float) (n m : ℕ) (rowNames columnNames : List ℕ) (g : ℕ) (own : List Float) (members : List ℕ) (r c : ℕ) → n ≤ 64 → m ≤ 64 → Gathered costs n m rowNames columnNames g own members r → c ≡ ticks (bears columnNames g) m
-    → (r ≤ 64) × (c ≤ 64) × (r * c ≤ length own)
-group-fits costs n m rowNames columnNames g own members r c hn hm G e =
-    let a : r ≤ 64 = rw (G .count) (let q = ticks-le (bears rowNames g) n in omega arith) in
-    let b : c ≤ 64 = rw e (let q = ticks-le (bears columnNames g) m in omega arith) in
-    (a, b, rw (G .long) (omega (arith, mul-le-mul-right c a)))
+pub group-fits : (size : ℕ) (costs : List Float) (n m : ℕ) (rowNames columnNames : List ℕ) (g : ℕ) (own : List Float) (members : List ℕ) (r c : ℕ) → n ≤ 64 → m ≤ 64 → n * m ≤ size → GatheredIn size costs n m rowNames columnNames g own members r
+    → c ≡ ticks (bears columnNames g) m → (r ≤ 64) × (c ≤ 64) × (r * c ≤ length own)
+group-fits size costs n m rowNames columnNames g own members r c hn hm room G e =
+    let a : r ≤ n = rw (G .count) (ticks-le (bears rowNames g) n) in
+    let b : c ≤ m = rw e (ticks-le (bears columnNames g) m) in
+    (omega (arith, a, hn), omega (arith, b, hm), rw (G .long) (omega (arith, mul-le-mul-right c a, mul-le-mul-left n b, room)))
+
+pub room-of : (n m size : ℕ) (own : List Float) → length own ≡ size → n * m ≤ size → 0 < size → size ≤ 4096 → Room n m own
+room-of n m size own e h a b = record { enough = omega (arith, h, e); some = omega (arith, a, e); few = omega (arith, b, e) }
+
+-- an array that is as long has as much room
+pub room-kept : {n m : ℕ} {own own' : List Float} → Room n m own → length own' ≡ length own → Room n m own'
+room-kept r e = record { enough = omega (arith, r .enough, e); some = omega (arith, r .some, e); few = omega (arith, r .few, e) }
 
 -- ---- group after group
 module _ (costs : List Float) (n m : ℕ) (far rowCost columnCost : Float) where

@@ -27,10 +27,14 @@ groupRow costs m columnNames g i = picked (bears columnNames g) (λ j. getD cost
 abbrev pub groupTable : List Float → ℕ → List ℕ → List ℕ → ℕ → ℕ → List (List Float)
 groupTable costs m rowNames columnNames g n = picked (bears rowNames g) (groupRow costs m columnNames g) n
 
--- the own table of group g in the front of `own`, and its rows in the front of `members`
-pub record Gathered (costs : List Float) (n m : ℕ) (rowNames columnNames : List ℕ) (g : ℕ) (own : List Float) (members : List ℕ) (r : ℕ) : Type 0 where
-  pub long : length own ≡ 4096
+-- the own table of group g in the front of `own`, which has `size` places, and its rows in the front of `members`
+pub record GatheredIn (size : ℕ) (costs : List Float) (n m : ℕ) (rowNames columnNames : List ℕ) (g : ℕ) (own : List Float) (members : List ℕ) (r : ℕ) : Type 0 where
+  pub long : length own ≡ size
   pub members-long : length members ≡ 64
   pub count : r ≡ ticks (bears rowNames g) n
   pub table : take (r * ticks (bears columnNames g) m) own ≡ inOne (groupTable costs m rowNames columnNames g n)
   pub members-are : take r members ≡ picked (bears rowNames g) (λ i. i) n
+
+-- the same in an array for the largest table
+abbrev pub Gathered : List Float → ℕ → ℕ → List ℕ → List ℕ → ℕ → List Float → List ℕ → ℕ → Type 0
+Gathered = GatheredIn 4096

@@ -44,6 +44,12 @@ pub record Call (costs : List Float) (n m : ℕ) (rowNames columnNames : List �
   pub size : length costs ≡ n * m
   pub named : NamedBy (labels finite (rowsOf n m costs) m) n m rowNames columnNames
 
+-- an array that has room for the call's table, and so for each group's own
+pub record Room (n m : ℕ) (own : List Float) : Type 0 where
+  pub enough : n * m ≤ length own
+  pub some : 0 < length own
+  pub few : length own ≤ 4096
+
 pub record GroupTaken (costs : List Float) (n m : ℕ) (far rowCost columnCost : Float) (g : ℕ) (ok : Bool) (before after : List ℕ) : Type 0 where
   pub long : length after ≡ 64
   pub is : (let R = rowsOf n m costs in let s = labels finite R m in let cm = map (isLabel g) (s .ofColumns) in

@@ -5,7 +5,7 @@ ghost use lib.ListN.{length, getD};
 ghost use lib.Ieee.{nan};
 ghost use Rattle.kuhn_munkres.specs.Assignment.{largest, sentinelOf};
 ghost use Rattle.groups.specs.Picks.{picked, ticks};
-ghost use Rattle.assignment.specs.Picks.{bears, Laid, Gathered};
+ghost use Rattle.assignment.specs.Picks.{bears, Laid, GatheredIn, Gathered};
 
 // The largest of the finite costs and `first`.
 pub fn largest_finite(costs: &[f64], first: f64) -> f64
@@ -52,11 +52,11 @@ pub fn gather_row(
     columns: usize,
     names: &[usize; 64],
     g: usize,
-    own: &mut [f64; 4096],
+    own: &mut [f64],
     from: usize,
 ) -> usize
-    requires { ⌜ (at + columns ≤ length (now costs)) × (columns ≤ 64) × (from + columns ≤ 4096) × (length (now own) ≡ 4096) ⌝ }
-    ensures { λ r. ⌜ Laid 4096 (now (own .entry)) (now (own .exit)) from r (picked (bears (now (names .entry)) g) (λ j. getD (now (costs .entry)) (at + j) nan) columns) ⌝ }
+    requires { ⌜ (at + columns ≤ length (now costs)) × (columns ≤ 64) × (from + columns ≤ length (now own)) × (length (now own) ≤ 4096) ⌝ }
+    ensures { λ r. ⌜ Laid (length (now (own .entry))) (now (own .entry)) (now (own .exit)) from r (picked (bears (now (names .entry)) g) (λ j. getD (now (costs .entry)) (at + j) nan) columns) ⌝ }
 {
     let mut k = from;
     for j in 0..columns {
@@ -69,7 +69,34 @@ pub fn gather_row(
     k
 }
 
-// The rows of group g, in `members`, and their costs in its columns, in `own`; how many rows it has.
+// The rows of group g, in `members`, and their costs in its columns, in `own`, which has room for all costs; how many rows it has.
+pub fn gather_in(
+    costs: &[f64],
+    rows: usize,
+    columns: usize,
+    row_names: &[usize; 64],
+    column_names: &[usize; 64],
+    g: usize,
+    own: &mut [f64],
+    members: &mut [usize; 64],
+) -> usize
+    requires { ⌜ (rows ≤ 64) × (columns ≤ 64) × (length (now costs) ≡ rows * columns) × (rows * columns ≤ length (now own)) × (length (now own) ≤ 4096) × (length (now members) ≡ 64) ⌝ }
+    ensures { λ r. ⌜ GatheredIn (length (now (own .entry))) (now (costs .entry)) rows columns (now («row_names» .entry)) (now («column_names» .entry)) g (now (own .exit)) (now (members .exit)) r ⌝ }
+{
+    let mut k = 0usize;
+    let mut r = 0usize;
+    for i in 0..rows {
+        if row_names[i] == g {
+            k = gather_row(costs, i * columns, columns, column_names, g, own, k);
+            members[r] = i;
+            r += 1;
+            continue;
+        }
+    }
+    r
+}
+
+// The same into an array for the largest table.
 pub fn gather(
     costs: &[f64],
     rows: usize,
@@ -83,15 +110,14 @@ pub fn gather(
     requires { ⌜ (rows ≤ 64) × (columns ≤ 64) × (length (now costs) ≡ rows * columns) × (length (now own) ≡ 4096) × (length (now members) ≡ 64) ⌝ }
     ensures { λ r. ⌜ Gathered (now (costs .entry)) rows columns (now («row_names» .entry)) (now («column_names» .entry)) g (now (own .exit)) (now (members .exit)) r ⌝ }
 {
-    let mut k = 0usize;
-    let mut r = 0usize;
-    for i in 0..rows {
-        if row_names[i] == g {
-            k = gather_row(costs, i * columns, columns, column_names, g, own, k);
-            members[r] = i;
-            r += 1;
-            continue;
-        }
-    }
-    r
+    gather_in(
+        costs,
+        rows,
+        columns,
+        row_names,
+        column_names,
+        g,
+        own,
+        members,
+    )
 }

@@ -11,7 +11,7 @@ ghost use Rattle.kuhn_munkres.specs.Assignment.{rowsOf, pairing};
 ghost use Rattle.kuhn_munkres.specs.Single.{isSingle, singleRows};
 ghost use Rattle.hungarian.specs.Structs.{squareFrom};
 ghost use Rattle.hungarian.specs.Ends.{endReply};
-ghost use Rattle.assignment.specs.Taking.{takerNumber, takersOf, replyIf, Taken, Call, GroupTaken, AllTaken};
+ghost use Rattle.assignment.specs.Taking.{takerNumber, takersOf, replyIf, Taken, Call, Room, GroupTaken, AllTaken};
 
 // The row of the whole table for the row t of a group's square, which has r rows of its own; rows of a square count from 1. 64 for a dummy.
 fn taker(t: usize, r: usize, members: &[usize; 64]) -> usize
@@ -105,13 +105,13 @@ fn solve_group(
     column_names: &[usize; 64],
     g: usize,
     prices: Prices,
-    own: &mut [f64; 4096],
+    own: &mut [f64],
     members: &mut [usize; 64],
     p: &mut [usize; 129],
     takers: &mut [usize; 64],
 ) -> bool
-    requires { ⌜ Call (now costs) rows columns (now «row_names») (now «column_names») × (g < rows) × (length (now own) ≡ 4096) × (length (now members) ≡ 64) × (length (now takers) ≡ 64) ⌝ }
-    ensures { λ ok. ⌜ (length (now (own .exit)) ≡ 4096) × (length (now (members .exit)) ≡ 64) × GroupTaken (now (costs .entry)) rows columns (prices .far) (prices .row) (prices .column) g ok (now (takers .entry)) (now (takers .exit)) ⌝ }
+    requires { ⌜ Call (now costs) rows columns (now «row_names») (now «column_names») × (g < rows) × Room rows columns (now own) × (length (now members) ≡ 64) × (length (now takers) ≡ 64) ⌝ }
+    ensures { λ ok. ⌜ (length (now (own .exit)) ≡ length (now (own .entry))) × (length (now (members .exit)) ≡ 64) × GroupTaken (now (costs .entry)) rows columns (prices .far) (prices .row) (prices .column) g ok (now (takers .entry)) (now (takers .exit)) ⌝ }
 {
     if row_names[g] != g {
         return true;
@@ -120,7 +120,7 @@ fn solve_group(
     if c == 0 {
         return true;
     }
-    let r = crate::table::gather(
+    let r = crate::table::gather_in(
         costs,
         rows,
         columns,
@@ -144,7 +144,43 @@ fn solve_group(
     true
 }
 
-// All groups, each named by its last row. False for a step that is not finite.
+// All groups, each named by its last row; `own` is for the table of one. False for a step that is not finite.
+fn solve_groups_in(
+    costs: &[f64],
+    rows: usize,
+    columns: usize,
+    row_names: &[usize; 64],
+    column_names: &[usize; 64],
+    prices: Prices,
+    own: &mut [f64],
+    takers: &mut [usize; 64],
+) -> bool
+    requires { ⌜ Call (now costs) rows columns (now «row_names») (now «column_names») × Room rows columns (now own) × (length (now takers) ≡ 64) ⌝ }
+    ensures { λ ok. ⌜ AllTaken (now (costs .entry)) rows columns (prices .far) (prices .row) (prices .column) ok (now (takers .entry)) (now (takers .exit)) ⌝ }
+{
+    let mut members = [0usize; 64];
+    let mut p = [0usize; 129];
+    for g in 0..rows {
+        if !solve_group(
+            costs,
+            rows,
+            columns,
+            row_names,
+            column_names,
+            g,
+            prices,
+            own,
+            &mut members,
+            &mut p,
+            takers,
+        ) {
+            return false;
+        }
+    }
+    true
+}
+
+// The same, with an array of its own: a small one for a small table, since filling the large one takes longer than the rest of the call.
 fn solve_groups(
     costs: &[f64],
     rows: usize,
@@ -157,27 +193,30 @@ fn solve_groups(
     requires { ⌜ Call (now costs) rows columns (now «row_names») (now «column_names») × (length (now takers) ≡ 64) ⌝ }
     ensures { λ ok. ⌜ AllTaken (now (costs .entry)) rows columns (prices .far) (prices .row) (prices .column) ok (now (takers .entry)) (now (takers .exit)) ⌝ }
 {
-    let mut own = [0.0f64; 4096];
-    let mut members = [0usize; 64];
-    let mut p = [0usize; 129];
-    for g in 0..rows {
-        if !solve_group(
+    if costs.len() <= 256 {
+        let mut own = [0.0f64; 256];
+        return solve_groups_in(
             costs,
             rows,
             columns,
             row_names,
             column_names,
-            g,
             prices,
             &mut own,
-            &mut members,
-            &mut p,
             takers,
-        ) {
-            return false;
-        }
+        );
     }
-    true
+    let mut own = [0.0f64; 4096];
+    solve_groups_in(
+        costs,
+        rows,
+        columns,
+        row_names,
+        column_names,
+        prices,
+        &mut own,
+        takers,
+    )
 }
 
 // The row that takes each column of a table, into `takers`, which has 64 everywhere at first. False for a step that is not finite.

@@ -1,48 +1,13 @@
 use borrow.Author.Needs.{needs}
 use native.Mathlib.Omega.{arith}
-use mathlib.Core.Path.{_≡_, refl, sym, ap, _∙_, subst}
-use Prim.Native.Nat.{ℕ, _+_, _-_, _*_, _≤_, _<_}
-use borrow.Author.Tests.{eq-eqb, ne-eqb}
-use native.Mathlib.Nat.{suc-mul, mul-le-mul-right}
-use Rattle.assignment.proofs.Places.{turn-in, turn-less, turn-next, turn-room}
-use Rattle.assignment.proofs.Picking.{Gathering, gathering-none, gather-room, gather-member, gathering-skip, gathering-take, gathered}
+use native.Mathlib.Nat.{mul-le-mul-right}
 use Rattle.assignment.proofs.table.gather.Statement.{statement}
 use Rattle.assignment.proofs.table.gather.Tie as tie
 
-abbrev Inv-loop : tie.InvT-loop
-Inv-loop costs rows columns row-names column-names g own₀ members₀ k₀ r₀ i₀ own members k r i = (i ≤ rows) × Gathering costs rows columns row-names column-names g i own₀ own members₀ members k r
-
-abbrev μ-loop : tie.MeasureT-loop
-μ-loop costs rows columns row-names column-names g own₀ members₀ k₀ r₀ i₀ own members k r i = rows - i
-
-loop-holds : tie.Need-loop-holds Inv-loop μ-loop
-loop-holds c = let s = c .before in (omega arith, gathering-none _ _ _ _ _ _ _ _ (s .pre .3) (s .pre .4))
-
-mul-gather-row : tie.Need-mul-gather-row Inv-loop μ-loop
-mul-gather-row c = let l = c .before .before .before in let s = l .before .before in omega (arith, suc-mul (l .loop .i) (s .args .columns), mul-le-mul-right (s .args .columns) (c .before .before .loop-test .taken), s .pre .2, mul-le-mul-right (s .args .columns) (s .pre .0), s .pre .1)
-
-gather-row-requires : tie.Need-gather-row-requires Inv-loop μ-loop
-gather-row-requires c κs = let l = c .before .before .before .before in let s = l .before .before in let t = c .before .before .before .loop-test .taken in (omega (arith, suc-mul (l .loop .i) (s .args .columns), mul-le-mul-right (s .args .columns) (t), s .pre .2, mul-le-mul-right (s .args .columns) (s .pre .0), s .pre .1), s .pre .1, gather-room _ _ _ _ _ _ _ _ _ _ _ _ _ (s .pre .0) (s .pre .1) t (l .loop .inv .1), l .loop .inv .1 .table .long)
-
-mul-members : tie.Need-mul-members Inv-loop μ-loop
-mul-members c = let l = c .before .before .before .before .before in let s = l .before .before in omega (arith, gather-member _ _ _ _ _ _ _ _ _ _ _ _ _ (s .pre .0) (s .pre .1) (c .before .before .before .before .loop-test .taken) (l .loop .inv .1))
-
-element-write-members : tie.Need-element-write-members Inv-loop μ-loop
-element-write-members c = let l = c .before .before .before .before .before in let s = l .before .before in omega (arith, gather-member _ _ _ _ _ _ _ _ _ _ _ _ _ (s .pre .0) (s .pre .1) (c .before .before .before .before .loop-test .taken) (l .loop .inv .1))
-
-add-r : tie.Need-add-r Inv-loop μ-loop
-add-r c = let l = c .before .before .before .before .before in let s = l .before .before in omega (arith, gather-member _ _ _ _ _ _ _ _ _ _ _ _ _ (s .pre .0) (s .pre .1) (c .before .before .before .before .loop-test .taken) (l .loop .inv .1))
-
-loop-again : tie.Need-loop-again Inv-loop μ-loop
-loop-again c = let l = c .before .before .before .before .before in let s = l .before .before in let t = c .before .before .before .before .loop-test .taken in (omega arith, gathering-take _ _ _ _ _ _ _ _ _ _ _ _ _ (s .pre .0) (s .pre .1) t (l .loop .inv .1) (eq-eqb _ _ (c .before .before .if1 .taken)) _ _ (c .gather-row .ensures))
-
-loop-again-2 : tie.Need-loop-again-2 Inv-loop μ-loop
-loop-again-2 c = let l = c .before .before .before in let s = l .before .before in let t = c .before .before .loop-test .taken in (omega arith, gathering-skip _ _ _ _ _ _ _ _ _ _ _ _ _ (s .pre .0) (s .pre .1) t (l .loop .inv .1) (ne-eqb _ _ (c .if1 .left)))
-
-returns : tie.Need-returns Inv-loop μ-loop
-returns c = let l = c .before in let s = l .before .before in let e : l .loop .i ≡ s .args .rows = omega (arith, c .loop-test .left, l .loop .inv .0) in gathered _ _ _ _ _ _ _ _ _ _ _ _ (rw e at (l .loop .inv .1))
+gather-in-requires : tie.Need-gather-in-requires
+gather-in-requires c κs =
+    let s = c .before .before .before in
+    (s .pre .0, s .pre .1, s .pre .2, omega (arith, mul-le-mul-right (s .args .columns) (s .pre .0), s .pre .1, s .pre .3), omega (arith, s .pre .3), s .pre .4)
 
 pub gather-spec : {M : Type 1} → statement M
-gather-spec =
-    tie.close
-    (tie.spec Inv-loop μ-loop loop-holds (λ c. turn-room _ _ (c .loop-test .taken) (c .before .before .before .pre .0)) (λ c. turn-in _ _ (c .loop-test .taken) (c .before .before .before .pre .0)) mul-gather-row gather-row-requires mul-members element-write-members add-r (λ c. turn-next _ _ (c .before .before .before .before .loop-test .taken) (c .before .before .before .before .before .before .before .pre .0)) (λ c. turn-less _ _ (c .before .before .before .before .loop-test .taken)) loop-again (λ c. turn-next _ _ (c .before .before .loop-test .taken) (c .before .before .before .before .before .pre .0)) (λ c. turn-less _ _ (c .before .before .loop-test .taken)) loop-again-2 returns)
+gather-spec = tie.close (tie.spec gather-in-requires (λ c. search needs))
