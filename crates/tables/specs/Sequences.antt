@@ -5,10 +5,18 @@ use mathlib.Core.List.{List, [], _∷_}
 use mathlib.Core.Option.{Option, none, some}
 use lib.Dec.{eqb, leb, ltb}
 use lib.ListN.{length}
-use Rattle.lists.specs.Table.{inserted}
+use Rattle.lists.specs.Table.{Table, overTable, inserted}
 use Rattle.types.specs.declared.tracker.SensorSequence.{SensorSequence}
+use Rattle.tables.specs.declared.sequences.Sequences.{Sequences}
 use Rattle.tables.specs.declared.sequences.LastSequence.{LastSequence}
 use Rattle.tables.specs.declared.sequences.LastSequence.the-variants.{Nothing, Sequence}
+
+abbrev pub held : Table SensorSequence → Sequences
+held t = record { entries = t .array; count = t .count }
+
+-- a list in the first places; those behind it are as they were
+abbrev pub over : Sequences → List SensorSequence → Sequences
+over s l = held (overTable l (s .entries))
 
 abbrev pub entry : ℕ → ℕ → SensorSequence
 entry sensor sequence = record { sensor = sensor; sequence = sequence }

@@ -1,4 +1,4 @@
-// The tables of a tracker: each operation takes the whole state by value, changes it in place, and equals one on lists.
+// The tables of a tracker: each operation equals one on lists. Those of tracks and candidates take the whole state by value and change it in place; sensors are noted in their table by itself as well.
 ghost use mathlib.Core.Path.{_≡_};
 ghost use Prim.Native.Nat.{min};
 

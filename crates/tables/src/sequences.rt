@@ -5,11 +5,17 @@ ghost use lib.ListN.{take};
 ghost use Rattle.lists.specs.First.{firstAt};
 ghost use Rattle.types.specs.States.{sequencesOf, overSequences};
 ghost use Rattle.tables.specs.Operations.{placeOf};
-ghost use Rattle.tables.specs.Sequences.{notBefore, lastOf, sequenceOf, roomFor, insertedIn, notedIn};
+ghost use Rattle.tables.specs.Sequences.{notBefore, lastOf, sequenceOf, over, roomFor, insertedIn, notedIn};
 use super::Place;
 use types::MAX_SEQUENCES;
 use types::tracker::Cartesian3DTracker;
 use types::tracker::SensorSequence;
+
+// The table by itself, for whoever holds it in another state.
+pub struct Sequences {
+    pub entries: [SensorSequence; MAX_SEQUENCES],
+    pub count: usize,
+}
 
 // The latest sequence number of a sensor, where it has one.
 pub enum LastSequence {
@@ -64,50 +70,63 @@ pub fn has_room_for(entries: [SensorSequence; MAX_SEQUENCES], count: usize, sens
     }
 }
 
-// The entry at `at`, those from there on one place up, where there is room for one more.
-fn insert_sequence(
-    mut s: Cartesian3DTracker,
-    at: usize,
-    entry: SensorSequence,
-) -> Cartesian3DTracker
-    requires { ⌜ at ≤ min (s .«sequence_count») 32 ⌝ }
-    ensures { λ r. ⌜ r ≡ overSequences s (insertedIn 32 at entry (sequencesOf s)) ⌝ }
+// The entry at `at`, those from there on one place up, where there is room for one more. `note` meets what it asks: a place of a search, or the one behind the last.
+fn insert(s: Sequences, at: usize, entry: SensorSequence) -> Sequences
+    requires { ⌜ at ≤ min (s .count) 32 ⌝ }
+    ensures { λ r. ⌜ r ≡ over s (insertedIn 32 at entry (take (s .count) (s .entries))) ⌝ }
 {
-    let n = super::taken(s.sequence_count, MAX_SEQUENCES);
+    let n = super::taken(s.count, MAX_SEQUENCES);
+    let mut entries = s.entries;
     if n == MAX_SEQUENCES {
-        s.sequence_count = n;
-        return s;
+        return Sequences { entries, count: n };
     }
     let mut waiting = entry;
     let mut j = at;
     while j < n {
-        let next = s.sequences[j];
-        s.sequences[j] = waiting;
+        let next = entries[j];
+        entries[j] = waiting;
         waiting = next;
         j += 1;
     }
-    s.sequences[n] = waiting;
-    s.sequence_count = n + 1;
-    s
+    entries[n] = waiting;
+    Sequences {
+        entries,
+        count: n + 1,
+    }
 }
 
 // The sensor's latest sequence number is this one; nothing changes where there is no room for the sensor.
-pub fn note_sequence(mut s: Cartesian3DTracker, sensor: u32, sequence: u64) -> Cartesian3DTracker
-    ensures { λ r. ⌜ r ≡ overSequences s (notedIn 32 sensor sequence (sequencesOf s)) ⌝ }
+pub fn note(s: Sequences, sensor: u32, sequence: u64) -> Sequences
+    ensures { λ r. ⌜ r ≡ over s (notedIn 32 sensor sequence (take (s .count) (s .entries))) ⌝ }
 {
-    let n = super::taken(s.sequence_count, MAX_SEQUENCES);
-    let entries = s.sequences;
+    let n = super::taken(s.count, MAX_SEQUENCES);
+    let mut entries = s.entries;
     let entry = SensorSequence { sensor, sequence };
     match seat_of(entries, n, sensor) {
-        Place::Nowhere => insert_sequence(s, n, entry),
+        Place::Nowhere => insert(s, n, entry),
         Place::At(i) => {
             if entries[i].sensor == sensor {
-                s.sequences[i] = entry;
-                s.sequence_count = n;
-                s
+                entries[i] = entry;
+                Sequences { entries, count: n }
             } else {
-                insert_sequence(s, i, entry)
+                insert(s, i, entry)
             }
         }
     }
+}
+
+// The same in the state of a tracker.
+pub fn note_sequence(mut s: Cartesian3DTracker, sensor: u32, sequence: u64) -> Cartesian3DTracker
+    ensures { λ r. ⌜ r ≡ overSequences s (notedIn 32 sensor sequence (sequencesOf s)) ⌝ }
+{
+    let entries = s.sequences;
+    let held = Sequences {
+        entries,
+        count: s.sequence_count,
+    };
+    let noted = note(held, sensor, sequence);
+    let sequences = noted.entries;
+    s.sequences = sequences;
+    s.sequence_count = noted.count;
+    s
 }
