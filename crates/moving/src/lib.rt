@@ -4,7 +4,7 @@ ghost use Rattle.number.specs.Reply.{given, andThen};
 ghost use Rattle.filter.specs.Filter.{replyOfStep};
 ghost use Rattle.types.specs.Track.{withFilter, withTimestamp};
 ghost use Rattle.calls.specs.Predict.{movedBy, moved};
-ghost use Rattle.moving.specs.Steps.{TrackAnswers, TrackerAnswers, agedWith, agedTrack, movedTracks, withTime};
+ghost use Rattle.moving.specs.Steps.{TrackAnswers, TrackerAnswers, agedWith, agedTrack, fateOf, carried, movedTracks, withTime};
 use lifecycle::LifecycleConfig;
 use lifecycle::Observation;
 use lifecycle::Verdict;
@@ -96,6 +96,49 @@ pub fn move_track(x: Track3D, time: i64, density: f64) -> TrackStep
     }
 }
 
+// What becomes of a track at a later time.
+pub enum Fate {
+    Dropped,
+    Kept,
+    Refused(Refusal),
+}
+
+// With the track that it leaves, where it is kept.
+pub struct Carried {
+    pub fate: Fate,
+    pub track: Track3D,
+}
+
+// The track at the time, where its life keeps it.
+pub fn carry(x: Track3D, time: i64, life: LifecycleConfig, density: f64) -> Carried
+    ensures { λ r. ⌜ fateOf (r .fate) (r .track) ≡ carried life density time x ⌝ }
+{
+    let aged = advance_track(x, time, life);
+    let verdict = aged.verdict;
+    let y = aged.track;
+    match verdict {
+        Verdict::Dropped => Carried {
+            fate: Fate::Dropped,
+            track: y,
+        },
+        Verdict::Kept => {
+            let step = move_track(y, time, density);
+            let outcome = step.outcome;
+            let track = step.track;
+            match outcome {
+                Outcome::Refused(why) => Carried {
+                    fate: Fate::Refused(why),
+                    track,
+                },
+                Outcome::Done => Carried {
+                    fate: Fate::Kept,
+                    track,
+                },
+            }
+        }
+    }
+}
+
 // The tracks at the time: those that their lives drop are gone, and the others are moved to it.
 pub fn move_tracks(s: Cartesian3DTracker, time: i64) -> TrackerStep
     ensures { λ r. ⌜ TrackerAnswers s r (movedTracks s time) ⌝ }
@@ -108,30 +151,23 @@ pub fn move_tracks(s: Cartesian3DTracker, time: i64) -> TrackerStep
     let mut kept: usize = 0;
     let mut i: usize = 0;
     while i < n {
-        let aged = advance_track(tracks[i], time, life);
-        let verdict = aged.verdict;
-        let x = aged.track;
-        match verdict {
-            Verdict::Dropped => {
+        let c = carry(tracks[i], time, life, density);
+        let fate = c.fate;
+        let y = c.track;
+        match fate {
+            Fate::Dropped => {
                 i += 1;
             }
-            Verdict::Kept => {
-                let step = move_track(x, time, density);
-                let outcome = step.outcome;
-                let y = step.track;
-                match outcome {
-                    Outcome::Refused(why) => {
-                        return TrackerStep {
-                            outcome: Outcome::Refused(why),
-                            tracker: s,
-                        };
-                    }
-                    Outcome::Done => {
-                        tracks[kept] = y;
-                        kept += 1;
-                        i += 1;
-                    }
-                }
+            Fate::Refused(why) => {
+                return TrackerStep {
+                    outcome: Outcome::Refused(why),
+                    tracker: s,
+                };
+            }
+            Fate::Kept => {
+                tracks[kept] = y;
+                kept += 1;
+                i += 1;
             }
         }
     }

@@ -39,7 +39,7 @@ use Rattle.birth_stage.proofs.Walking.{columns-length}
 use Rattle.birth_stage.proofs.Growing.{Grows, after-grows}
 use Rattle.stages.specs.declared.Reported.{Reported}
 use Rattle.stages.specs.Stages.{refusedWith, matchedIn, Finishes}
-use Rattle.stages.proofs.Moving.{refused-before}
+use Rattle.moving.proofs.Tracks.{refused-before}
 
 -- ---- the sensor's sequence
 

@@ -16,17 +16,12 @@ use Rattle.types.specs.States.{State, stateOf, tracksOf, sequencesOf, candidate
 use Rattle.types.specs.Track.{withMark}
 use Rattle.types.proofs.Overs.{tracks-anew, tracks-again, settings-over, state-over}
 use Rattle.calls.specs.Predict.{predictedTracks}
-use Rattle.number.proofs.Replies.{bound, given-same, never-given}
+use Rattle.number.proofs.Replies.{bound, given-same}
 use Rattle.moving.specs.declared.TrackerStep.{TrackerStep}
 use Rattle.moving.specs.Steps.{TrackerAnswers, movedTracks}
-use Rattle.moving.proofs.Tracks.{call-given, call-refuses}
+use Rattle.moving.proofs.Tracks.{refused-before, call-given, call-refuses}
 use Rattle.stages.specs.Stages.{tracksIn, preparedState}
 use Rattle.stages.proofs.Settled.{tracks-settled}
-
--- a refusal of what is carried on was there before
-pub refused-before : {A B : Type 0} (r : Reply A) (f : A → B) (n : ℕ) → andThen r (λ x. given (f x)) ≡ refused n → r ≡ refused n
-refused-before (refused m) f n e = cc
-refused-before (given x) f n e = never-given n (f x) (sym e)
 
 pub tracks-held : (u : Cartesian3DTracker) (s : State) → tracksOf (overState u s) ≡ s .tracks
 unfolding stateOf

@@ -40,7 +40,8 @@ use Rattle.birth_stage.proofs.Growing.{births-grow}
 use Rattle.stages.specs.declared.Matching.{Matching}
 use Rattle.stages.specs.declared.Reported.{Reported}
 use Rattle.stages.specs.Stages.{refusedWith, tracksIn, preparedState, seenIn, takersIn, matchReply, matchedBy, MatchAnswers, Finishes}
-use Rattle.stages.proofs.Moving.{refused-before, tracks-held}
+use Rattle.moving.proofs.Tracks.{refused-before}
+use Rattle.stages.proofs.Moving.{tracks-held}
 use Rattle.stages.proofs.Ending.{sequences-held}
 use Rattle.tracker.specs.Owner.{checkReply, restReply, movedReply, Replies}
 
