@@ -4,7 +4,6 @@ use mathlib.Core.List.{List}
 use lib.IntN.{ℤ, pos}
 use lib.ListN.{length, take, replicate}
 use Rattle.lists.specs.Lay.{lay}
-use Rattle.settings.specs.declared.frame.FrameName.{FrameName}
 use Rattle.detections.specs.declared.Detection.{Detection}
 use Rattle.types.specs.declared.batch.ObservationBatch3D.{ObservationBatch3D}
 use Rattle.settings.specs.declared.optional.OptionalF64.the-variants as f64
@@ -13,16 +12,13 @@ use Rattle.types.specs.declared.batch.ObservationOutcome.the-variants.{U
 use Rattle.types.specs.declared.batch.AssociatedTrack.the-variants as track
 use Rattle.types.specs.declared.batch.BatchReport3D.{BatchReport3D}
 
+-- what of a batch is a list; all else is read off the struct
 pub record Batch : Type 0 where
-  pub sensor : ℕ
-  pub sequence : ℕ
-  pub time : ℤ
-  pub frame : FrameName
   pub detections : List Detection
 
 -- the detections in the first places, whatever the count says; one over 64 is refused before they are looked at
 unfoldable pub batchOf : ObservationBatch3D → Batch
-batchOf b = record { sensor = b .«sensor_id»; sequence = b .sequence; time = b .timestamp; frame = b .«frame_id»; detections = take (b .count) (b .observations) }
+batchOf b = record { detections = take (b .count) (b .observations) }
 
 pub record Report : Type 0 where
   pub time : ℤ
