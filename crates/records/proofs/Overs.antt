@@ -1,7 +1,6 @@
 -- A state laid over what a C program holds is that state laid over the tracker that it means. Assumes nothing.
 use mathlib.Core.Path.{_≡_, refl, sym, ap, _∙_}
 use mathlib.Core.List.{map}
-use Prim.Native.Nat.{ℕ}
 use lib.ListN.{length, length-map}
 use Rattle.lists.specs.Lay.{lay}
 use Rattle.lists.proofs.Laying.{take-lay}

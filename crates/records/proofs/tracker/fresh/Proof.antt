@@ -1,7 +1,5 @@
-use mathlib.Core.Path.{ap, _∙_}
-use lib.ListN.{replicate}
+use mathlib.Core.Path.{_≡_}
 use borrow.Author.Needs.{needs}
-use Rattle.records.specs.Tracks.{trackTo}
 use Rattle.records.specs.Trackers.{pkFresh}
 use Rattle.records.proofs.tracker.fresh.Statement.{statement}
 use Rattle.records.proofs.tracker.fresh.Tie as tie
