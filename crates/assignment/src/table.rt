@@ -69,7 +69,7 @@ pub fn gather_row(
     k
 }
 
-// The rows of group g, in `members`, and their costs in its columns, in `own`, which has room for all costs; how many rows it has.
+// The rows of group g, in `members`, and their costs in its columns, in `own`, which has room for all costs; how many rows it has. A leaf: the solver of groups brings the room.
 pub fn gather_in(
     costs: &[f64],
     rows: usize,
