@@ -4,7 +4,7 @@ use Prim.Native.Nat.{ℕ, _*_, _/_, _%_}
 use mathlib.Core.Bool.{cond}
 use mathlib.Core.List.{List, [], _∷_}
 use lib.Dec.{eqb}
-use lib.Ieee.{Float, binary64, ofBits}
+use lib.Ieee.{Float, binary64, ofBits, mul}
 use Rattle.number.specs.Reply.{Reply, given, andThen}
 use Rattle.matrix.specs.Matrix.{Vector, item, entry, tabulate, nought, one, product, transposed}
 use Rattle.matrix.specs.Flat.{rowsOf}
@@ -37,24 +37,21 @@ atRest variance = filterWith (tabulate 6 (λ k. nought)) (diagonal 6 variance)
 abbrev measuredAt : Vector
 measuredAt = two ∷ nought ∷ nought ∷ []
 
--- the gain of x by the measured x
+-- the gain of x by the measured x; the update moves x by it, times the innovation
 abbrev gainOfX : Reply Float
 gainOfX =
     let p = rowsOf 6 6 (diagonal 6 three) in
     let h = selection 3 6 0 in
     andThen (cholesky 3 (spread 3 6 h (rowsOf 3 3 (diagonal 3 one)) p)) (λ l. given (entry (gainBy 3 6 l (product 6 6 3 p (transposed 3 6 h))) 0 0))
 
-abbrev numbersOf : Reply KalmanFilter → List ℕ → Reply Vector
-numbersOf r places = andThen r (λ f. given (at places (f .covariance)))
-  where
-    at : List ℕ → Vector → Vector
-    at [] v = []
-    at (k ∷ ks) v = item v k ∷ at ks v
+-- x, its variance and its covariance with its velocity
+abbrev ofX : Reply KalmanFilter → Reply Vector
+ofX r = andThen r (λ f. given (item (f .state) 0 ∷ item (f .covariance) 0 ∷ item (f .covariance) 3 ∷ []))
 
 abbrev pub filterCases : List Case
 filterCases =
     case (squaredMahalanobis measuredAt (diagonal 3 one) (atRest three)) (given one)
     ∷ case gainOfX (given threeQuarters)
-    ∷ case (numbersOf (updatedByPosition measuredAt (diagonal 3 one) (atRest three)) (0 ∷ [])) (given (threeQuarters ∷ []))
-    ∷ case (numbersOf (predicted one nought (atRest one)) (0 ∷ 3 ∷ [])) (given (two ∷ one ∷ []))
+    ∷ case (ofX (updatedByPosition measuredAt (diagonal 3 one) (atRest three))) (given (mul binary64 threeQuarters two ∷ threeQuarters ∷ nought ∷ []))
+    ∷ case (ofX (predicted one nought (atRest one))) (given (nought ∷ two ∷ one ∷ []))
     ∷ []
