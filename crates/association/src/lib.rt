@@ -2,12 +2,10 @@
 ghost use mathlib.Core.Path.{_≡_};
 ghost use mathlib.Core.List.{[]};
 ghost use Prim.Native.Nat.{_≤_};
-ghost use lib.ListN.{take, replicate};
-ghost use Rattle.calls.specs.Update.{unmatchedFrom};
-ghost use Rattle.association.specs.Told.{mateOf, alone, PairsTold, Listed};
+ghost use lib.ListN.{length, take, replicate};
+ghost use Rattle.association.specs.Told.{mateOf, alone, PairsTold, unmatchedOf, Listed};
 use types::MAX_OBSERVATIONS;
 use types::MAX_TRACKS;
-use types::track::Track3D;
 
 // Whether a track took the detection, and which, at what cost.
 pub struct Pair {
@@ -37,14 +35,14 @@ pub fn no_pairs() -> [Pair; MAX_OBSERVATIONS]
 // The pair of each of the first m columns; a taker that is not one of the n tracks is none.
 // A leaf: the pairing stage has brought both counts down to the places that there are.
 pub fn pairs_of(
-    tracks: [Track3D; MAX_TRACKS],
+    ids: &[u64; 64],
     n: usize,
     takers: &[usize; 64],
     m: usize,
     costs: &[f64; 4096],
 ) -> [Pair; MAX_OBSERVATIONS]
     requires { ⌜ (n ≤ 64) × (m ≤ 64) ⌝ }
-    ensures { λ r. ⌜ PairsTold tracks n m (now (costs .entry)) (now (takers .entry)) m r ⌝ }
+    ensures { λ r. ⌜ PairsTold (now (ids .entry)) n m (now (costs .entry)) (now (takers .entry)) m r ⌝ }
 {
     let mut pairs = no_pairs();
     let mut j: usize = 0;
@@ -53,7 +51,7 @@ pub fn pairs_of(
         if i < n {
             pairs[j] = Pair {
                 taken: true,
-                track: tracks[i].id,
+                track: ids[i],
                 cost: costs[i * m + j],
             };
             j += 1;
@@ -66,11 +64,11 @@ pub fn pairs_of(
 
 // The numbers of the tracks that took no detection, in track order.
 // A leaf, as above.
-pub fn unmatched_of(tracks: [Track3D; MAX_TRACKS], n: usize, mates: &[usize; 64]) -> Unmatched
-    requires { ⌜ n ≤ 64 ⌝ }
-    ensures { λ r. ⌜ Listed (unmatchedFrom (mateOf (now (mates .entry)) []) 0 (take n tracks)) (r .ids) (r .count) ⌝ }
+pub fn unmatched_of(ids: &[u64; 64], n: usize, mates: &[usize; 64]) -> Unmatched
+    requires { ⌜ (n ≤ 64) × (length (now ids) ≡ 64) ⌝ }
+    ensures { λ r. ⌜ Listed (unmatchedOf (mateOf (now (mates .entry)) []) 0 (take n (now (ids .entry)))) (r .ids) (r .count) ⌝ }
 {
-    let mut ids = [0u64; MAX_TRACKS];
+    let mut left = [0u64; MAX_TRACKS];
     let mut count: usize = 0;
     let mut i: usize = 0;
     while i < n {
@@ -78,9 +76,9 @@ pub fn unmatched_of(tracks: [Track3D; MAX_TRACKS], n: usize, mates: &[usize; 64]
             i += 1;
             continue;
         }
-        ids[count] = tracks[i].id;
+        left[count] = ids[i];
         count += 1;
         i += 1;
     }
-    Unmatched { ids, count }
+    Unmatched { ids: left, count }
 }

@@ -14,14 +14,13 @@ use Rattle.lists.proofs.Each.{each-at-all, each-cons, each-nil, each-long, each
 use Rattle.number.proofs.Replies.{never-given}
 use Rattle.detections.specs.declared.Detection.{Detection}
 use Rattle.detections.specs.declared.pairs.PairConfig.{PairConfig}
-use Rattle.detections.specs.declared.pairs.Target.{Target}
-use Rattle.types.specs.declared.track.Track3D.{Track3D}
 use Rattle.types.specs.declared.refusal.Refusal.{Refusal}
 use Rattle.types.specs.declared.refusal.Outcome.{Outcome}
 use Rattle.types.specs.declared.refusal.Outcome.the-variants.{Done, Refused}
 use Rattle.types.specs.Refusals.{numberOf, replyOf}
-use Rattle.calls.specs.Pairing.{targetFor, costReply, costTable}
-use Rattle.pairing.specs.Rows.{priceReply, front, Laid}
+use Rattle.pairing.specs.declared.Row.{Row}
+use Rattle.pairing.specs.Rows.{priceReply, rowCosts}
+use Rattle.pairing.specs.Laid.{front, Laid}
 use Rattle.pairing.proofs.Laying.{front-all}
 use Rattle.pairing.proofs.Ties.{laid-given, laid-refused}
 use Rattle.cost_table.specs.Table.{frontRows, Tabled}
@@ -121,47 +120,46 @@ module _ {A B C : Type 0} (f : A → B → Reply C) (l : List A) (ds : List B) (
 
 -- ---- the cost table
 
-pub table-long : (c : PairConfig) (ts : List Track3D) (ds : List Detection) (r : Reply (Unit {0})) (before after : List Float) → Tabled c ts ds r before after → length after ≡ length before
-table-long c ts ds r before after t = ap length (t .content) ∙ length-sets before 0 (frontRows (costReply c) ts ds)
+abbrev rowPrice : PairConfig → Row → Detection → Reply Float
+rowPrice c r d = priceReply c (r .target) d
 
-module _ (c : PairConfig) (tracks : List Track3D) (ds : List Detection) (before : List Float) where
-  -- a row of prices is a row of the cost table
-  priced : (t : Track3D) (k : ℕ) (r : Reply (Unit {0})) (b a : List Float) → Laid (priceReply c (targetFor t)) ds k r b a → Laid (costReply c t) ds k r b a
-  unfolding priceReply costReply
-  priced t k r b a p = p
+pub table-long : (c : PairConfig) (rows : List Row) (ds : List Detection) (r : Reply (Unit {0})) (before after : List Float) → Tabled c rows ds r before after → length after ≡ length before
+table-long c rows ds r before after t = ap length (t .content) ∙ length-sets before 0 (frontRows (rowPrice c) rows ds)
 
-  module _ (i k : ℕ) (mid after : List Float) (t : Track3D) (s : Tabling (costReply c) tracks ds i before mid) (w : k ≡ i * length ds) (x : Target) (e : x ≡ targetFor (getD tracks i t)) where
-    priced-row : (r : Reply (Unit {0})) → Laid (priceReply c x) ds k r mid after → Laid (costReply c (getD tracks i t)) ds k r mid after
-    priced-row r p = priced (getD tracks i t) k r mid after (subst (λ (y : Target). Laid (priceReply c y) ds k r mid after) e p)
+module _ (c : PairConfig) (all : List Row) (ds : List Detection) (before : List Float) where
+  -- the rows of the first i
+  abbrev pub Rows : ℕ → List Float → Type 0
+  Rows i after = Tabling (rowPrice c) all ds i before after
 
-    pub table-more : (o : Outcome) → i < length tracks → o ≡ Done → Laid (priceReply c x) ds k (replyOf o) mid after → Tabling (costReply c) tracks ds (i + 1) before after
-    table-more o h q p = tabling-more (costReply c) tracks ds before i k mid after t s h w (subst (λ (z : Outcome). Laid (costReply c (getD tracks i t)) ds k (replyOf z) mid after) q (priced-row (replyOf o) p))
+  module _ (i k : ℕ) (mid after : List Float) (a : Row) (s : Rows i mid) (w : k ≡ i * length ds) where
+    pub table-more : (o : Outcome) → i < length all → o ≡ Done → Laid (priceReply c (getD all i a .target)) ds k (replyOf o) mid after → Rows (i + 1) after
+    table-more o h q p = tabling-more (rowPrice c) all ds before i k mid after a s h w (subst (λ (z : Outcome). Laid (rowPrice c (getD all i a)) ds k (replyOf z) mid after) q p)
 
-    pub table-stops : (n : ℕ) (o : Outcome) (why : Refusal) → i < n → n ≤ length tracks → o ≡ Refused why → Laid (priceReply c x) ds k (replyOf o) mid after → Tabled c (take n tracks) ds (refused (numberOf why)) before after
-    unfolding costTable
+    pub table-stops : (n : ℕ) (o : Outcome) (why : Refusal) → i < n → n ≤ length all → o ≡ Refused why → Laid (priceReply c (getD all i a .target)) ds k (replyOf o) mid after → Tabled c (take n all) ds (refused (numberOf why)) before after
+    unfolding rowCosts
     table-stops n o why h l q p =
-        let z = tabling-stops (costReply c) tracks ds before n i k mid after t (numberOf why) s h l w (subst (λ (z : Outcome). Laid (costReply c (getD tracks i t)) ds k (replyOf z) mid after) q (priced-row (replyOf o) p)) in
+        let z = tabling-stops (rowPrice c) all ds before n i k mid after a (numberOf why) s h l w (subst (λ (z : Outcome). Laid (rowPrice c (getD all i a)) ds k (replyOf z) mid after) q p) in
         record { is = sym (ap (λ (x : Reply (List (List Float))). andThen x (λ rows. given tt)) (z .0)); content = z .1 }
 
-  pub table-all : (n i : ℕ) (after : List Float) → i ≡ n → Tabling (costReply c) tracks ds i before after → Tabled c (take n tracks) ds (given tt) before after
-  unfolding costTable
+  pub table-all : (n i : ℕ) (after : List Float) → i ≡ n → Rows i after → Tabled c (take n all) ds (given tt) before after
+  unfolding rowCosts
   table-all n i after e t =
-      let s = subst (λ (j : ℕ). Tabling (costReply c) tracks ds j before after) e t in
+      let s = subst (λ (j : ℕ). Rows j after) e t in
       record {
         is = sym (ap (λ (x : Reply (List (List Float))). andThen x (λ rows. given tt)) (s .gives));
-        content = s .slots ∙ ap (sets before 0) (sym (front-rows (costReply c) ds (take n tracks) (s .done) (s .gives)));
+        content = s .slots ∙ ap (sets before 0) (sym (front-rows (rowPrice c) ds (take n all) (s .done) (s .gives)));
       }
 
   -- where no pair is refused the array begins with the table
-  pub table-given : (ts : List Track3D) (after : List Float) → length ts * length ds ≤ length before → Tabled c ts ds (given tt) before after
-      → (rows : List (List Float)) × (costTable c ts ds ≡ given rows) × (take (length ts * length ds) after ≡ inOne rows)
-  unfolding costTable
-  table-given ts after h t = go (costTable c ts ds) refl
+  pub table-given : (rows : List Row) (after : List Float) → length rows * length ds ≤ length before → Tabled c rows ds (given tt) before after
+      → (costs : List (List Float)) × (rowCosts c rows ds ≡ given costs) × (take (length rows * length ds) after ≡ inOne costs)
+  unfolding rowCosts
+  table-given rows after h t = go (rowCosts c rows ds) refl
     where
-      go : (r : Reply (List (List Float))) → costTable c ts ds ≡ r → (rows : List (List Float)) × (costTable c ts ds ≡ given rows) × (take (length ts * length ds) after ≡ inOne rows)
-      go (refused n) e = never-given n tt (sym (t .is ∙ ap (λ (x : Reply (List (List Float))). andThen x (λ rows. given tt)) e))
-      go (given rows) e =
-          let long = table-size (costReply c) ds ts rows e in
-          let at : after ≡ take 0 before ++ inOne rows ++ drop (0 + length (inOne rows)) before =
-          t .content ∙ ap (sets before 0) (front-rows (costReply c) ds ts rows e) ∙ sets-eq (inOne rows) before 0 (omega arith) in
-          (rows, e, ap (take (length ts * length ds)) at ∙ take-at (inOne rows) (drop (0 + length (inOne rows)) before) (length ts * length ds) long)
+      go : (r : Reply (List (List Float))) → rowCosts c rows ds ≡ r → (costs : List (List Float)) × (rowCosts c rows ds ≡ given costs) × (take (length rows * length ds) after ≡ inOne costs)
+      go (refused n) e = never-given n tt (sym (t .is ∙ ap (λ (x : Reply (List (List Float))). andThen x (λ costs. given tt)) e))
+      go (given costs) e =
+          let long = table-size (rowPrice c) ds rows costs e in
+          let at : after ≡ take 0 before ++ inOne costs ++ drop (0 + length (inOne costs)) before =
+          t .content ∙ ap (sets before 0) (front-rows (rowPrice c) ds rows costs e) ∙ sets-eq (inOne costs) before 0 (omega arith) in
+          (costs, e, ap (take (length rows * length ds)) at ∙ take-at (inOne costs) (drop (0 + length (inOne costs)) before) (length rows * length ds) long)

@@ -1,15 +1,14 @@
 -- What the tests on the way of a verdict say of its definition. Assumes nothing.
 use mathlib.Core.Path.{_≡_, refl}
 use mathlib.Core.Bool.{true, false}
-use Prim.Native.Nat.{ℕ}
 use lib.Ieee.{Float, le}
 use lib.Ieee.Scale.{finite}
-use Rattle.number.specs.Reply.{Reply, refused, given}
+use Rattle.number.specs.Reply.{Reply, given}
 use Rattle.detections.specs.declared.Class.{Class}
 use Rattle.detections.specs.declared.pairs.ClassPrior.{ClassPrior}
 use Rattle.detections.specs.declared.pairs.PairConfig.{PairConfig}
 use Rattle.detections.specs.declared.pairs.Rule.the-variants.{Classes, Gate, Cost}
-use Rattle.detections.specs.Pairs.{Ruling, forbidden, allowed, compatible, penalized, priced, gated, ruled}
+use Rattle.detections.specs.Pairs.{Ruling, forbidden, allowed, compatible, penalized, priced, gated, measured, ruled}
 
 module _ (cost : Float) where
   pub cost-finite : finite cost ≡ true → allowed cost ≡ priced cost
@@ -34,10 +33,6 @@ module _ (c : PairConfig) (class : Class) (prior : ClassPrior) (seen : Class) (d
   unfolding ruled
   classes-forbid f = rw f
 
-  pub distance-decides : {d : Float} {r : Reply Ruling} → compatible class seen ≡ true → given d ≡ distance → r ≡ given (gated c prior seen d) → r ≡ ruled c class prior seen distance
+  pub distance-decides : {r : Reply Ruling} → compatible class seen ≡ true → r ≡ measured c prior seen distance → r ≡ ruled c class prior seen distance
   unfolding ruled
-  distance-decides t e f = rw (t, ← e) f
-
-  pub distance-refused : {n : ℕ} → compatible class seen ≡ true → refused n ≡ distance → refused n ≡ ruled c class prior seen distance
-  unfolding ruled
-  distance-refused t e = rw (t, ← e)
+  distance-decides t e = rw t e

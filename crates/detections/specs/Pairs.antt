@@ -44,9 +44,13 @@ priced cost = cond (finite cost) (allowed cost) (forbidden Cost)
 unfoldable pub gated : PairConfig → ClassPrior → Class → Float → Ruling
 gated c prior seen d = cond (le d (c .«gate_squared_mahalanobis»)) (priced (penalized (c .«class_prior_penalty») prior seen d)) (forbidden Gate)
 
--- the whole rule for a squared distance that is a reply. 01, Batch: "distances of class-compatible pairs", so a pair that its classes forbid is never refused.
+-- the rules behind that of the classes, for a squared distance that is a reply
+abbrev pub measured : PairConfig → ClassPrior → Class → Reply Float → Reply Ruling
+measured c prior seen distance = andThen distance (λ d. given (gated c prior seen d))
+
+-- the whole rule. 01, Batch: "distances of class-compatible pairs", so a pair that its classes forbid is never refused.
 unfoldable pub ruled : PairConfig → Class → ClassPrior → Class → Reply Float → Reply Ruling
-ruled c class prior seen distance = cond (compatible class seen) (andThen distance (λ d. given (gated c prior seen d))) (given (forbidden Classes))
+ruled c class prior seen distance = cond (compatible class seen) (measured c prior seen distance) (given (forbidden Classes))
 
 -- what of a track with the filter f its pairs depend on
 abbrev pub targetOf : KalmanFilter → Class → ClassPrior → Target

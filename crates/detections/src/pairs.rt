@@ -1,7 +1,8 @@
 // The rule for a pair of a track and a detection: whether it may be made, and at what cost.
 ghost use mathlib.Core.Path.{_≡_};
 ghost use Rattle.number.specs.Reply.{given};
-ghost use Rattle.detections.specs.Pairs.{compatible, penalized, priced, gated, verdictOf, replyOfVerdict};
+ghost use Rattle.math.specs.Linalg.{replyOfDistance};
+ghost use Rattle.detections.specs.Pairs.{compatible, penalized, priced, gated, measured, verdictOf, replyOfVerdict};
 use super::Class;
 use super::Detection;
 
@@ -92,6 +93,21 @@ fn gate(squared: f64, prior: ClassPrior, seen: Class, config: PairConfig) -> Ver
     }
 }
 
+// What becomes of a pair of compatible classes, once its distance is taken.
+pub fn verdict_at(
+    distance: math::linalg::Distance,
+    prior: ClassPrior,
+    seen: Class,
+    config: PairConfig,
+) -> Verdict
+    ensures { λ r. ⌜ replyOfVerdict r ≡ measured config prior seen (replyOfDistance distance) ⌝ }
+{
+    match distance {
+        math::linalg::Distance::Squared(x) => gate(x, prior, seen, config),
+        math::linalg::Distance::Refused(why) => Verdict::Refused(why),
+    }
+}
+
 // What becomes of the pair of a track and a detection that has passed its checks. Where the classes forbid it, no distance is taken.
 pub fn pair_verdict(t: Target, d: Detection, config: PairConfig) -> Verdict
     ensures { λ r. ⌜ replyOfVerdict r ≡ verdictOf config t d ⌝ }
@@ -103,10 +119,8 @@ pub fn pair_verdict(t: Target, d: Detection, config: PairConfig) -> Verdict
     let covariance = d.covariance;
     let seen = d.class_label;
     if classes_compatible(class, seen) {
-        match filter::distance_from(expected, position, covariance) {
-            math::linalg::Distance::Squared(x) => gate(x, prior, seen, config),
-            math::linalg::Distance::Refused(why) => Verdict::Refused(why),
-        }
+        let distance = filter::distance_from(expected, position, covariance);
+        verdict_at(distance, prior, seen, config)
     } else {
         Verdict::Forbidden(Rule::Classes)
     }

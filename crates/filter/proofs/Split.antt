@@ -9,8 +9,9 @@ use Rattle.finite.specs.Finite.{finiteVector}
 use Rattle.math.specs.Linalg.{validated, squaredDistance}
 use Rattle.models.specs.Models.{selection, isotropic}
 use Rattle.filter.specs.declared.KalmanFilter.{KalmanFilter}
+use Rattle.filter.specs.declared.Expected.{Expected}
 use Rattle.filter.specs.Kalman.{innovation, spread, measuredBy, measured, updateReply, distanceOf}
-use Rattle.filter.specs.Filter.{estimateOf, stored, updatedByPosition, updatedByVelocity, updatedByCheckedVelocity, squaredMahalanobis, expectedOf, innovationFrom, spreadFrom, distanceFrom, updatedFrom}
+use Rattle.filter.specs.Filter.{estimateOf, stored, updatedByPosition, updatedByVelocity, updatedByCheckedVelocity, squaredMahalanobis, expectedOf, innovationFrom, spreadFrom, factorFrom, distanceWith, distanceFrom, updatedFrom}
 use Rattle.filter.proofs.Steps.{check-passed}
 
 -- 9 numbers hold a matrix of three rows whole
@@ -25,6 +26,11 @@ same-spread f r = ap (λ (s : Matrix). symmetrized 3 (plus 3 3 s (rowsOf 3 3 r))
 same-innovation : (f : KalmanFilter) (z : Vector) → innovationFrom (expectedOf f) z ≡ innovation 3 6 z (selection 3 6 0) (f .state)
 unfolding expectedOf innovation
 same-innovation f z = refl
+
+-- the factor of S first, then the distance by it
+pub distance-factored : (m : Expected) (z r : Vector) → distanceWith m z (factorFrom m r) ≡ distanceFrom m z r
+unfolding distanceFrom distanceWith factorFrom squaredDistance
+distance-factored m z r = refl
 
 pub distance-parts : (f : KalmanFilter) (z r : Vector) → distanceFrom (expectedOf f) z r ≡ distanceOf 3 6 z (selection 3 6 0) (rowsOf 3 3 r) (estimateOf f)
 unfolding distanceFrom distanceOf

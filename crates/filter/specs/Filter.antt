@@ -6,7 +6,8 @@ use Rattle.number.specs.Reply.{Reply, refused, given, andThen, leftIn}
 use Rattle.matrix.specs.Matrix.{Vector, Matrix, timesVector, congruence, plus, minusVector, symmetrized}
 use Rattle.matrix.specs.Flat.{rowsOf, flatOf}
 use Rattle.math.specs.Refusing.{numberOf}
-use Rattle.math.specs.Linalg.{squaredDistance}
+use Rattle.cholesky.specs.Cholesky.{cholesky}
+use Rattle.math.specs.Linalg.{distanceBy, squaredDistance}
 use Rattle.models.specs.Models.{transition, noise, selection, isotropic}
 use Rattle.filter.specs.declared.KalmanFilter.{KalmanFilter}
 use Rattle.filter.specs.declared.Expected.{Expected}
@@ -66,6 +67,13 @@ innovationFrom m z = minusVector 3 z (m .position)
 
 abbrev pub spreadFrom : Expected → Vector → Matrix
 spreadFrom m r = symmetrized 3 (plus 3 3 (rowsOf 3 3 (m .covariance)) (rowsOf 3 3 r))
+
+-- the factor of S, and the squared distance by it
+unfoldable pub factorFrom : Expected → Vector → Reply Matrix
+factorFrom m r = cholesky 3 (spreadFrom m r)
+
+unfoldable pub distanceWith : Expected → Vector → Reply Matrix → Reply Float
+distanceWith m z factor = andThen factor (λ l. distanceBy 3 l (innovationFrom m z))
 
 unfoldable pub distanceFrom : Expected → Vector → Vector → Reply Float
 distanceFrom m z r = squaredDistance 3 (innovationFrom m z) (spreadFrom m r)

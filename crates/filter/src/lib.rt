@@ -8,7 +8,7 @@ ghost use Rattle.models.specs.Models.{transition, selection};
 ghost use Rattle.math.specs.Refusing.{numberOf};
 ghost use Rattle.number.specs.Reply.{refused, andThen};
 ghost use Rattle.filter.specs.Kalman.{estimate, finished, moved, innovation, spread, corrected, gained, measuredWith, measuredBy, measured};
-ghost use Rattle.filter.specs.Filter.{filterWith, estimateOf, stored, created, predicted, updatedByPosition, updatedByVelocity, updatedByCheckedVelocity, squaredMahalanobis, expectedOf, distanceFrom, updatedFrom, Answer};
+ghost use Rattle.filter.specs.Filter.{filterWith, estimateOf, stored, created, predicted, updatedByPosition, updatedByVelocity, updatedByCheckedVelocity, squaredMahalanobis, expectedOf, factorFrom, distanceWith, distanceFrom, updatedFrom, Answer};
 
 // A state of position and velocity, and its covariance, row after row.
 #[repr(C)]
@@ -268,15 +268,30 @@ pub fn expected_position(f: KalmanFilter) -> Expected
     }
 }
 
-// The squared distance of a measured position from where it is expected, for a measurement that is checked already.
+// The factor of the covariance of an innovation that is measured with the covariance `noise`: once for all measurements with the same one.
+pub fn factor_from(m: Expected, noise: [f64; 9]) -> cholesky::Factor3
+    ensures { λ r. ⌜ replyOfFactor3 r ≡ factorFrom m noise ⌝ }
+{
+    let covariance = m.covariance;
+    cholesky::cholesky3(symmetrized::symmetrized_sum3(
+        flat::rows_3x3(covariance),
+        flat::rows_3x3(noise),
+    ))
+}
+
+// The squared distance of a measured position from where it is expected, by that factor.
+pub fn distance_by(m: Expected, z: [f64; 3], factor: cholesky::Factor3) -> math::linalg::Distance
+    ensures { λ r. ⌜ replyOfDistance r ≡ distanceWith m z (replyOfFactor3 factor) ⌝ }
+{
+    let position = m.position;
+    math::linalg::distance_by_factor3(sums::sub3(z, position), factor)
+}
+
+// The two together, for a measurement that is checked already.
 pub fn distance_from(m: Expected, z: [f64; 3], noise: [f64; 9]) -> math::linalg::Distance
     ensures { λ r. ⌜ replyOfDistance r ≡ distanceFrom m z noise ⌝ }
 {
-    let position = m.position;
-    let covariance = m.covariance;
-    let u = sums::sub3(z, position);
-    let s = symmetrized::symmetrized_sum3(flat::rows_3x3(covariance), flat::rows_3x3(noise));
-    math::linalg::squared_mahalanobis3(u, s)
+    distance_by(m, z, factor_from(m, noise))
 }
 
 // What is measured beyond what f expects.

@@ -20,9 +20,12 @@ use Rattle.types.specs.declared.track.Track3D.{Track3D}
 use Rattle.assignment.specs.Taking.{takersOf}
 use Rattle.calls.specs.Pairing.{costTable, pairedIn}
 use Rattle.calls.specs.Update.{Column, columnFor, unmatchedFrom}
-use Rattle.pairing.specs.Rows.{Mates}
-use Rattle.association.specs.Told.{mateOf, alone, pairIn, PairsTold, Listed}
+use Rattle.pairing.specs.declared.Row.{Row}
+use Rattle.pairing.specs.Rows.{Mates, idsOf, rowCosts}
+use Rattle.association.specs.declared.Pair.{Pair}
+use Rattle.association.specs.Told.{mateOf, alone, pairIn, pairOf, PairsTold, unmatchedOf, Listed}
 use Rattle.matching.specs.declared.Paired.{Paired}
+use Rattle.matching.specs.Takers.{rowsPaired}
 
 -- the track that takes each detection: the cost table, then the pairing
 unfoldable pub takersFor : PairConfig → Option ℤ → ℤ → List Track3D → List Detection → Reply (List (Option ℕ))
@@ -38,12 +41,32 @@ abbrev pub unmatchedIn : List Track3D → List Detection → Reply (List (Option
 unmatchedIn ts ds (refused n) = []
 unmatchedIn ts ds (given takers) = unmatchedFrom (takenBy takers ds) 0 ts
 
--- the whole answer: each place of its arrays is settled, also where the pairing is refused
-pub record Matches (rule : PairConfig) (ts : List Track3D) (ds : List Detection) (reply : Reply (List (Option ℕ))) (r : Paired) : Type 0 where
+-- ---- the same of rows: what pair_tracks reads of the tracks
+
+unfoldable pub rowsTaken : PairConfig → Option ℤ → ℤ → List Row → List Detection → Reply (List (Option ℕ))
+rowsTaken rule window now rows ds = andThen (rowCosts rule rows ds) (λ costs. rowsPaired (rule .«gate_squared_mahalanobis») window now rows costs (length ds))
+
+abbrev pub pairsIn : PairConfig → List Row → List Detection → Reply (List (Option ℕ)) → List Pair
+pairsIn rule rows ds (refused n) = []
+pairsIn rule rows ds (given takers) = zipped (pairOf rule rows) takers ds
+
+abbrev pub idsLeft : List Row → List Detection → Reply (List (Option ℕ)) → List ℕ
+idsLeft rows ds (refused n) = []
+idsLeft rows ds (given takers) = unmatchedOf (takenBy takers ds) 0 (idsOf rows)
+
+-- ---- the whole answer: each place of its arrays is settled, also where the pairing is refused
+
+pub record Settles (reply : Reply (List (Option ℕ))) (told : List Pair) (left : List ℕ) (r : Paired) : Type 0 where
   pub outcome : replyOf (r .outcome) ≡ andThen reply (λ takers. given tt)
   pub mates : Mates (leftIn reply []) (r .mates)
-  pub pairs : r .pairs ≡ lay (map pairIn (columnsIn rule ts ds reply)) (replicate 64 alone)
-  pub unmatched : Listed (unmatchedIn ts ds reply) (r .unmatched) (r .«unmatched_count»)
+  pub pairs : r .pairs ≡ lay told (replicate 64 alone)
+  pub unmatched : Listed left (r .unmatched) (r .«unmatched_count»)
+
+abbrev pub Matches : PairConfig → List Track3D → List Detection → Reply (List (Option ℕ)) → Paired → Type 0
+Matches rule ts ds reply r = Settles reply (map pairIn (columnsIn rule ts ds reply)) (unmatchedIn ts ds reply) r
+
+abbrev pub RowsMatch : PairConfig → List Row → List Detection → Reply (List (Option ℕ)) → Paired → Type 0
+RowsMatch rule rows ds reply r = Settles reply (pairsIn rule rows ds reply) (idsLeft rows ds reply) r
 
 -- ---- its two ends
 
@@ -52,8 +75,8 @@ abbrev pub nothingPaired : Refusal → Paired
 nothingPaired why = record { outcome = Refused why; mates = replicate 64 64; pairs = replicate 64 alone; unmatched = replicate 64 0; «unmatched_count» = 0 }
 
 -- takers and costs, as the code holds them, and what is told of them
-pub record Tells (tracks : List Track3D) (n m : ℕ) (costs : List Float) (takers : List ℕ) (r : Paired) : Type 0 where
+pub record Tells (ids : List ℕ) (n m : ℕ) (costs : List Float) (takers : List ℕ) (r : Paired) : Type 0 where
   pub outcome : r .outcome ≡ Done
   pub mates : Mates (takersOf m takers) (r .mates)
-  pub pairs : PairsTold tracks n m costs takers m (r .pairs)
-  pub unmatched : Listed (unmatchedFrom (mateOf (r .mates) []) 0 (take n tracks)) (r .unmatched) (r .«unmatched_count»)
+  pub pairs : PairsTold ids n m costs takers m (r .pairs)
+  pub unmatched : Listed (unmatchedOf (mateOf (r .mates) []) 0 (take n ids)) (r .unmatched) (r .«unmatched_count»)

@@ -8,7 +8,7 @@ use lib.Seq.{sets, drop-cons, length-take-le, getD-take, take-take}
 use Rattle.number.specs.Reply.{Reply, refused, given, andThen}
 use Rattle.lists.specs.Each.{each}
 use Rattle.lists.proofs.Each.{each-at-all, each-cons, each-nil, each-long, each-more, each-stops}
-use Rattle.pairing.specs.Rows.{front, ahead, Laid}
+use Rattle.pairing.specs.Laid.{front, ahead, Laid}
 
 -- one store more
 pub sets-snoc : {B : Type 0} (l m : List B) (k : ℕ) (x : B) → sets m k (l ++ (x ∷ [])) ≡ set (sets m k l) (k + length l) x

@@ -1,23 +1,13 @@
--- What the contracts say in the terms of `calls`. Assumes nothing.
+-- What answers that are laid say of `each`. Assumes nothing.
 use mathlib.Core.Path.{_≡_, refl, sym, ap, _∙_}
-use mathlib.Core.List.{List, [], _∷_}
+use mathlib.Core.List.{List}
 use Prim.Native.Nat.{ℕ}
 use lib.Seq.{sets}
 use Rattle.number.specs.Reply.{Reply, refused, given, andThen}
-use Rattle.detections.specs.declared.Detection.{Detection}
-use Rattle.detections.specs.declared.pairs.PairConfig.{PairConfig}
-use Rattle.types.specs.declared.track.Track3D.{Track3D}
 use Rattle.lists.specs.Each.{each}
 use Rattle.number.proofs.Replies.{never-given}
-use Rattle.calls.specs.Pairing.{targetFor, costReply}
-use Rattle.pairing.specs.Rows.{priceReply, Laid}
+use Rattle.pairing.specs.Laid.{Laid}
 use Rattle.pairing.proofs.Laying.{front-all}
-
--- a row of prices is a row of the cost table
-pub row-is : (c : PairConfig) (t : Track3D) (ds : List Detection) → each (priceReply c (targetFor t)) ds ≡ each (costReply c t) ds
-unfolding each priceReply costReply
-row-is c t [] = refl
-row-is c t (d ∷ ds) = rw (row-is c t ds)
 
 -- whether all were given
 abbrev done : {B : Type 0} → Reply (List B) → Reply (Unit {0})

@@ -136,8 +136,9 @@ fn pair(u: Cartesian3DTracker, batch: ObservationBatch3D) -> Paired
         gate_squared_mahalanobis: config.gate_squared_mahalanobis,
         class_prior_penalty: config.class_prior_penalty,
     };
+    let rows = pairing::rows_of(tracks, u.track_count);
     matching::pair_tracks(
-        tracks,
+        rows,
         u.track_count,
         observations,
         batch.count,

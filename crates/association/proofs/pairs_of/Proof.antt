@@ -1,24 +1,22 @@
 -- `association::pairs_of` meets its contract: the first j columns have their pairs. Assumes nothing.
-use mathlib.Core.Path.{_≡_}
 use Prim.Native.Nat.{ℕ, _+_, _-_, _*_, _≤_, _<_}
-use lib.ListN.{length, getD}
+use lib.ListN.{getD}
 use native.Mathlib.Nat.{suc-mul, mul-le-mul-right}
 use native.Mathlib.Omega.{arith}
 use borrow.Author.Needs.{needs}
-use Rattle.lists.proofs.Laying.{length-mapped}
 use Rattle.association.specs.Told.{PairsTold}
 use Rattle.association.proofs.Telling.{told-none, told-take, told-skip, told-all}
 use Rattle.association.proofs.pairs_of.Statement.{statement}
 use Rattle.association.proofs.pairs_of.Tie as tie
 
 abbrev Inv-loop : tie.InvT-loop
-Inv-loop n takers m costs tracks pairs₀ j₀ pairs j = (j ≤ m) × (length tracks ≡ 64) × PairsTold tracks n m costs takers j pairs
+Inv-loop ids n takers m costs pairs₀ j₀ pairs j = (j ≤ m) × PairsTold ids n m costs takers j pairs
 
 abbrev μ-loop : tie.MeasureT-loop
-μ-loop n takers m costs tracks pairs₀ j₀ pairs j = m - j
+μ-loop ids n takers m costs pairs₀ j₀ pairs j = m - j
 
 loop-holds : tie.Need-loop-holds Inv-loop μ-loop
-loop-holds c = (omega arith, search (needs, length-mapped), told-none _ _ _ _ _ _ (c .no-pairs .ensures))
+loop-holds c = (omega arith, told-none _ _ _ _ _ _ (c .no-pairs .ensures))
 
 -- an entry of the table lies in the array
 entry-in : (i j n m : ℕ) → i < n → n ≤ 64 → j < m → m ≤ 64 → i * m + j < 4096
@@ -32,21 +30,21 @@ inside c =
 
 loop-again : tie.Need-loop-again Inv-loop μ-loop
 loop-again c =
-    let t = c .before in
+    let t = c .before .before in
     let l = t .before .before .before in
     let v = l .loop .inv in
     let h = t .before .before .loop-test .taken in
-    (omega arith, v .1, told-take _ _ _ _ _ (l .loop .j) _ (v .2) (omega (arith, l .before .before .pre .1)) _ (t .if1 .taken) (omega (arith, v .1, l .before .before .pre .0)))
+    (omega arith, told-take _ _ _ _ _ (l .loop .j) _ (v .1) (omega (arith, l .before .before .pre .1)) (t .if1 .taken))
 
 loop-again-2 : tie.Need-loop-again-2 Inv-loop μ-loop
 loop-again-2 c =
     let l = c .before .before .before in
     let v = l .loop .inv in
     let h = c .before .before .loop-test .taken in
-    (omega arith, v .1, told-skip _ _ _ _ _ (l .loop .j) _ (v .2) (omega (arith, l .before .before .pre .1)) (c .if1 .left))
+    (omega arith, told-skip _ _ _ _ _ (l .loop .j) _ (v .1) (omega (arith, l .before .before .pre .1)) (c .if1 .left))
 
 returns : tie.Need-returns Inv-loop μ-loop
-returns c = let l = c .before in told-all _ _ (l .before .before .args .m) _ _ (l .loop .j) _ (omega (arith, c .loop-test .left, l .loop .inv .0)) (l .loop .inv .2)
+returns c = let l = c .before in told-all _ _ (l .before .before .args .m) _ _ (l .loop .j) _ (omega (arith, c .loop-test .left, l .loop .inv .0)) (l .loop .inv .1)
 
 pub pairs-of-spec : {M : Type 1} → statement M
 pairs-of-spec =
@@ -60,14 +58,14 @@ pairs-of-spec =
     (λ c. omega (arith, c .loop-test .taken, c .before .before .before .pre .1))
     (λ c. omega (arith, c .if1 .taken, c .before .before .before .before .before .pre .0))
     (λ c. omega (arith, c .if1 .taken, c .before .before .before .before .before .pre .0))
-    (λ c. omega (arith, inside c))
-    (λ c. omega (arith, inside c))
-    (λ c. omega (arith, inside c))
-    (λ c. omega (arith, inside c))
-    (λ c. omega (arith, c .before .before .before .loop-test .taken, c .before .before .before .before .before .before .pre .1))
-    (λ c. omega (arith, c .before .before .before .loop-test .taken, c .before .before .before .before .before .before .pre .1))
-    (λ c. omega (arith, c .before .before .before .loop-test .taken))
-    (λ c. omega (arith, c .before .before .before .loop-test .taken))
+    (λ c. omega (arith, inside (c .before)))
+    (λ c. omega (arith, inside (c .before)))
+    (λ c. omega (arith, inside (c .before)))
+    (λ c. omega (arith, inside (c .before)))
+    (λ c. omega (arith, c .before .before .before .before .loop-test .taken, c .before .before .before .before .before .before .before .pre .1))
+    (λ c. omega (arith, c .before .before .before .before .loop-test .taken, c .before .before .before .before .before .before .before .pre .1))
+    (λ c. omega (arith, c .before .before .before .before .loop-test .taken))
+    (λ c. omega (arith, c .before .before .before .before .loop-test .taken))
     loop-again
     (λ c. omega (arith, c .before .before .loop-test .taken))
     (λ c. omega (arith, c .before .before .loop-test .taken))

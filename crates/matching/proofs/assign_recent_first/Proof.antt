@@ -17,8 +17,8 @@ use Rattle.matching.proofs.assign_recent_first.Tie as tie
 sized : (l : List ℕ) → l ≡ replicate 64 64 → length l ≡ 64
 sized l e = ap length e ∙ length-replicate {A = ℕ} 64 64
 
-tracks-long : (s : tie.Start) → length (take (s .args .n) (s .args .tracks)) ≡ s .args .n
-tracks-long s = let long : length (s .args .tracks) ≡ 64 = search (needs, length-mapped) in length-take-le (s .args .n) (s .args .tracks) (omega (arith, s .pre .0))
+rows-long : (s : tie.Start) → length (take (s .args .n) (s .args .rows)) ≡ s .args .n
+rows-long s = let long : length (s .args .rows) ≡ 64 = search (needs, length-mapped) in length-take-le (s .args .n) (s .args .rows) (omega (arith, s .pre .0))
 
 pair-cascade-requires : tie.Need-pair-cascade-requires
 pair-cascade-requires c κs =
@@ -31,7 +31,7 @@ returns c =
     let e = c .before .before .before in
     let k = e .before .before in
     let s = k .before .before .before in
-    recent-done (s .args .window) (s .args .time) _ (s .args .n) (replicate 64 false) _ (tracks-long s) (s .pre .0) (k .mark-recent .result)
+    recent-done (s .args .window) (s .args .time) _ (s .args .n) (replicate 64 false) _ (rows-long s) (s .pre .0) (k .mark-recent .result)
     (rw (toZ-ofZ (s .fits .time), toZ-ofZ (s .fits .window)) at (k .mark-recent .ensures))
     (s .args .gate) _ (s .args .m) (e .enum-told .given .1) _ _ _ (c .pair-cascade .ensures)
 
@@ -40,7 +40,7 @@ returns-2 c =
     let w = c .before in
     let k = w .before .before in
     let s = k .before .before .before in
-    recent-stops (s .args .window) (s .args .time) _ (s .args .n) (replicate 64 false) _ (tracks-long s) (s .pre .0) (k .mark-recent .result)
+    recent-stops (s .args .window) (s .args .time) _ (s .args .n) (replicate 64 false) _ (rows-long s) (s .pre .0) (k .mark-recent .result)
     (rw (toZ-ofZ (s .fits .time), toZ-ofZ (s .fits .window)) at (k .mark-recent .ensures))
     (s .args .gate) _ (s .args .m) _ (w .why .given .1) _ (sized _ (s .pre .3))
 
