@@ -7,9 +7,9 @@ use Rattle.calls.specs.Run.{run, stateReply, stateAfter}
 use Rattle.records.specs.declared.config.PkSettings.{PkSettings}
 use Rattle.records.specs.declared.tracker.PkTracker.{PkTracker}
 use Rattle.records.specs.Configs.{settingsOf}
-use Rattle.records.specs.Trackers.{pkOver, pkAfter}
+use Rattle.records.specs.Trackers.{pkOver, pkAfter, pkState}
 use Rattle.records.proofs.Overs.{state-over-pk}
-use Rattle.c_tracker.specs.Calls.{pkState, predictAnswer, priorAnswer, batchAnswer}
+use Rattle.c_tracker.specs.Calls.{predictAnswer, priorAnswer, batchAnswer}
 use Rattle.c_guarantee.specs.Claim.{PkCall, predictTo, processBatch, setClassPrior, callOf, recordAfter, pkRun, CallsAreCalls}
 
 after-state : (t : PkTracker) (reply : Reply State) → pkState (pkAfter t reply) ≡ leftIn reply (pkState t)

@@ -32,11 +32,11 @@ use Rattle.records.specs.declared.tracks.PkTrack.{PkTrack}
 use Rattle.records.specs.declared.tracker.PkTracker.{PkTracker}
 use Rattle.records.specs.Configs.{settingsOf}
 use Rattle.records.specs.Tracks.{trackOf, trackTo}
-use Rattle.records.specs.Trackers.{trackerOf, pkOver, pkAfter, pkFresh}
+use Rattle.records.specs.Trackers.{trackerOf, pkOver, pkAfter, pkFresh, pkState}
 use Rattle.records.proofs.Overs.{state-over-pk, fresh-tracker}
 use Rattle.batch_records.specs.declared.PkBatch.{PkBatch}
 use Rattle.batch_records.specs.Batches.{batchOf, reportTo}
-use Rattle.c_tracker.specs.Calls.{pkState, Heeded, newBy, newAnswer, processedBy, batchOn, batchAnswer}
+use Rattle.c_tracker.specs.Calls.{Heeded, newBy, newAnswer, processedBy, batchOn, batchAnswer}
 use Rattle.c_guarantee.specs.Reading.{pkTracks, trackIn, reportIn}
 use Rattle.c_guarantee.specs.Claim.{PkCall, callOf, pkRun, heldAfter, PkGuaranteed, PkDemand3}
 use Rattle.c_guarantee.proofs.Reports.{report-read}

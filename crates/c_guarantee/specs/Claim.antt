@@ -13,10 +13,11 @@ use Rattle.guarantee.specs.Claim.{DifferByFar, Guaranteed}
 use Rattle.records.specs.declared.config.PkSettings.{PkSettings}
 use Rattle.records.specs.declared.tracks.PkTrack.{PkTrack}
 use Rattle.records.specs.declared.tracker.PkTracker.{PkTracker}
+use Rattle.records.specs.Trackers.{pkState}
 use Rattle.records.specs.Configs.{settingsOf}
 use Rattle.batch_records.specs.declared.PkBatch.{PkBatch}
 use Rattle.batch_records.specs.Batches.{batchOf}
-use Rattle.c_tracker.specs.Calls.{pkState, Heeded, newAnswer, predictAnswer, priorAnswer, batchOn, batchAnswer}
+use Rattle.c_tracker.specs.Calls.{Heeded, newAnswer, predictAnswer, priorAnswer, batchOn, batchAnswer}
 use Rattle.c_guarantee.specs.Reading.{trackIn, pkTracks, doneIn}
 
 -- ---- a list of C calls

@@ -16,9 +16,9 @@ use Rattle.calls.specs.Process.{Done}
 use Rattle.flags.specs.Flags.{f64Of}
 use Rattle.records.specs.declared.tracks.PkTrack.{PkTrack}
 use Rattle.records.specs.declared.tracker.PkTracker.{PkTracker}
+use Rattle.records.specs.Trackers.{pkState}
 use Rattle.batch_records.specs.declared.PkAssociation.{PkAssociation}
 use Rattle.batch_records.specs.declared.PkReport.{PkReport}
-use Rattle.c_tracker.specs.Calls.{pkState}
 
 -- t->tracks[0 .. t->track_count)
 abbrev pub pkTracks : PkTracker → List PkTrack

@@ -1,12 +1,10 @@
 -- What a call of the tracker answers and leaves, laid over the record that a C program holds. Assumes nothing.
-use mathlib.Core.Path.{_≡_, refl, ap, subst, _∙_}
+use mathlib.Core.Path.{_≡_, refl, sym, ap, subst, _∙_}
 use Prim.Native.Nat.{ℕ, _<_}
 use native.Mathlib.Omega.{arith}
 use Rattle.number.specs.Reply.{Reply, refused, given, codeOf}
 use Rattle.types.specs.declared.batch.ObservationBatch3D.{ObservationBatch3D}
 use Rattle.types.specs.declared.batch.BatchReport3D.{BatchReport3D}
-use Rattle.types.specs.declared.refusal.Refusal.{Refusal}
-use Rattle.types.specs.declared.refusal.Refusal.the-variants as refusal
 use Rattle.types.specs.declared.refusal.Outcome.{Outcome}
 use Rattle.types.specs.declared.refusal.Outcome.the-variants as outcome
 use Rattle.types.specs.declared.tracker.Cartesian3DTracker.{Cartesian3DTracker}
@@ -20,25 +18,32 @@ use Rattle.records.specs.Trackers.{trackerOf, pkAfter}
 use Rattle.records.proofs.Overs.{laid-over}
 use Rattle.batch_records.specs.declared.PkBatch.{PkBatch}
 use Rattle.batch_records.specs.Batches.{batchOf, reportTo}
+use Rattle.owner.specs.Owner.{Runs}
+use Rattle.owner.proofs.Predicting.{number-above}
 use Rattle.c_tracker.specs.Calls.{Heeded, settled, answerOf, processedBy, batchOn, batchAnswer}
 
 verdict-code : {A : Type 0} (reply : Reply A) → codeOf (verdictOn reply) ≡ codeOf reply
 verdict-code (refused n) = refl
 verdict-code (given v) = refl
 
-number-above : (why : Refusal) → 0 < numberOf why
-number-above (refusal.InvalidConfig field) = omega arith
-number-above refusal.FrameMismatch = omega arith
-number-above refusal.TimestampWentBackwards = omega arith
-number-above refusal.DuplicateBatch = omega arith
-number-above refusal.NonFiniteValue = omega arith
-number-above refusal.NotSymmetric = omega arith
-number-above refusal.NotPositiveDefinite = omega arith
-number-above refusal.TimestampOverflow = omega arith
-number-above refusal.NonFiniteResult = omega arith
-number-above refusal.AssignmentFailed = omega arith
-number-above refusal.TooMany = omega arith
-number-above refusal.InvalidPrior = omega arith
+-- ---- a call that was worked out in the record itself
+
+module _ (t u : PkTracker) (code : ℕ) (reply : Reply State) (h : Runs t u code reply) where
+  pub run-carried : code ≡ 0 → record { tracker = u; code = 0 } ≡ answerOf t reply
+  run-carried e = go reply refl
+    where
+      go : (r : Reply State) → reply ≡ r → record { tracker = u; code = 0 } ≡ answerOf t reply
+      go (refused n) w = absurd (let k : code ≡ n = h .is ∙ ap codeOf w in let z = h .heeded n w in omega arith)
+      go (given s) w = (unfold pkAfter in ap (λ (x : PkTracker). record { tracker = x; code = 0 }) (h .whole s w)) ∙ ap (answerOf t) (sym w)
+
+  pub run-refused : (code ≡ 0 → ⊥) → record { tracker = t; code = code } ≡ answerOf t reply
+  run-refused e = go reply refl
+    where
+      go : (r : Reply State) → reply ≡ r → record { tracker = t; code = code } ≡ answerOf t reply
+      go (refused n) w = (unfold pkAfter in ap (λ (k : ℕ). record { tracker = t; code = k }) (h .is ∙ ap codeOf w)) ∙ ap (answerOf t) (sym w)
+      go (given s) w = absurd (e (h .is ∙ ap codeOf w))
+
+-- ---- a call of the tracker
 
 module _ (t : PkTracker) (u : Cartesian3DTracker) where
   -- a refusal that an outcome names has its number

@@ -11,7 +11,7 @@ use Rattle.settings.specs.Settings.{settingsReply}
 use Rattle.types.specs.declared.refusal.Outcome.{Outcome}
 use Rattle.types.specs.declared.refusal.Outcome.the-variants as outcome
 use Rattle.types.specs.declared.tracker.Cartesian3DTracker.{Cartesian3DTracker}
-use Rattle.types.specs.States.{State, stateOf}
+use Rattle.types.specs.States.{State}
 use Rattle.calls.specs.Predict.{predictReply}
 use Rattle.calls.specs.Prior.{priorReply}
 use Rattle.calls.specs.Process.{Done, processReply}
@@ -20,15 +20,11 @@ use Rattle.calls.specs.Answers.{reportAfter}
 use Rattle.records.specs.declared.config.PkSettings.{PkSettings}
 use Rattle.records.specs.declared.tracker.PkTracker.{PkTracker}
 use Rattle.records.specs.Configs.{settingsOf}
-use Rattle.records.specs.Trackers.{trackerOf, pkAfter, pkFresh, laidOver}
+use Rattle.records.specs.Trackers.{pkState, pkAfter, pkFresh, laidOver}
 use Rattle.batch_records.specs.declared.PkBatch.{PkBatch}
 use Rattle.batch_records.specs.Batches.{batchOf, reportTo}
 use Rattle.c_tracker.specs.declared.Answer.{Answer}
 use Rattle.c_tracker.specs.declared.Processed.{Processed}
-
--- the state that a C program holds
-abbrev pub pkState : PkTracker → State
-pkState t = stateOf (trackerOf t)
 
 -- ---- settings
 

@@ -3,7 +3,7 @@ ghost use mathlib.Core.Path.{_≡_};
 ghost use Rattle.number.specs.Reply.{codeOf};
 ghost use Rattle.settings.specs.Settings.{defaultSettings, settingsReply};
 ghost use Rattle.settings.specs.Settings as settings;
-ghost use Rattle.types.specs.Refusals.{numberOf, replyOf};
+ghost use Rattle.types.specs.Refusals.{replyOf};
 ghost use Rattle.records.specs.Configs.{settingsOf, settingsTo};
 ghost use Rattle.c_tracker.specs.Calls.{Heeded, checkAnswer, newAnswer, predictOn, predictAnswer, priorOn, priorAnswer, batchOn, batchAnswer, settled};
 use batch_records::PkBatch;
@@ -13,7 +13,6 @@ use records::tracker::PkTracker;
 use settings::Cartesian3DTrackerConfig;
 use settings::Validation;
 use types::refusal::Outcome;
-use types::refusal::Refusal;
 use types::tracker::Cartesian3DTracker;
 
 // The tracker after a call, and 0 or the number of the refusal.
@@ -28,32 +27,13 @@ pub struct Processed {
     pub report: PkReport,
 }
 
-fn number_of(why: Refusal) -> u32
-    ensures { λ r. ⌜ r ≡ numberOf why ⌝ }
-{
-    match why {
-        Refusal::InvalidConfig(_) => 1,
-        Refusal::FrameMismatch => 2,
-        Refusal::TimestampWentBackwards => 3,
-        Refusal::DuplicateBatch => 4,
-        Refusal::NonFiniteValue => 5,
-        Refusal::NotSymmetric => 6,
-        Refusal::NotPositiveDefinite => 7,
-        Refusal::TimestampOverflow => 8,
-        Refusal::NonFiniteResult => 9,
-        Refusal::AssignmentFailed => 10,
-        Refusal::TooMany => 11,
-        Refusal::InvalidPrior => 12,
-    }
-}
-
 // 0, or the number of the refusal.
 fn code_of(outcome: Outcome) -> u32
     ensures { λ r. ⌜ r ≡ codeOf (replyOf outcome) ⌝ }
 {
     match outcome {
         Outcome::Done => 0,
-        Outcome::Refused(why) => number_of(why),
+        Outcome::Refused(why) => owner::number_of(why),
     }
 }
 
@@ -110,12 +90,18 @@ pub fn new(t: PkTracker, s: PkSettings) -> Answer
 pub fn predict_to(t: PkTracker, at: i64) -> Answer
     ensures { λ r. ⌜ (r ≡ predictAnswer t at) × Heeded (predictOn t at) ⌝ }
 {
-    let answer = tracker::predict_to(records::tracker::tracker_of(t), at);
-    let outcome = answer.outcome;
-    let after = answer.tracker;
-    Answer {
-        tracker: settle(t, outcome, after),
-        code: code_of(outcome),
+    let ran = owner::predict_to(t, at);
+    let after = ran.tracker;
+    if ran.code == 0 {
+        Answer {
+            tracker: after,
+            code: 0,
+        }
+    } else {
+        Answer {
+            tracker: t,
+            code: ran.code,
+        }
     }
 }
 

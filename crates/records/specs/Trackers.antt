@@ -10,7 +10,7 @@ use Rattle.lifecycle.specs.declared.Observation.{Observation}
 use Rattle.types.specs.declared.tracker.BirthCandidate.{BirthCandidate}
 use Rattle.types.specs.declared.tracker.SensorSequence.{SensorSequence}
 use Rattle.types.specs.declared.tracker.Cartesian3DTracker.{Cartesian3DTracker}
-use Rattle.types.specs.States.{State, tracksOf, lastTimeOf}
+use Rattle.types.specs.States.{State, stateOf, tracksOf, lastTimeOf}
 use Rattle.types.specs.Fresh.{blankTrack, blankSequence, blankCandidate}
 use Rattle.flags.specs.Flags.{observationOf, hasObservation, theObservation}
 use Rattle.records.specs.declared.config.PkSettings.{PkSettings}
@@ -33,6 +33,10 @@ trackerOf t =
       «candidate_count» = t .«candidate_count»;
       config = settingsOf (t .settings);
     }
+
+-- the state that a C program holds
+abbrev pub pkState : PkTracker → State
+pkState t = stateOf (trackerOf t)
 
 -- other parts of all that calls change; the settings are as t has them
 abbrev pub withPkParts : ℕ → Observation → Table PkTrack → Table SensorSequence → Table BirthCandidate → PkTracker → PkTracker
