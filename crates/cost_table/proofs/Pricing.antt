@@ -1,6 +1,6 @@
 -- What a pair costs by the factor that is held, and what of the detections the table reads. Assumes nothing.
 use mathlib.Core.Path.{_≡_, refl, sym, ap, _∙_, subst}
-use mathlib.Core.Bool.{true, false}
+use mathlib.Core.Bool.{Bool, true, false}
 use mathlib.Core.List.{List, [], _∷_, _++_, map}
 use lib.Ieee.{Float}
 use Prim.Native.Nat.{ℕ, _<_}
@@ -8,53 +8,59 @@ use native.Mathlib.Omega.{arith}
 use lib.ListN.{length, take, getD}
 use lib.Seq.{sets, take-all}
 use Rattle.number.specs.Reply.{Reply, given, andThen}
-use Rattle.matrix.specs.Matrix.{Vector}
+use Rattle.matrix.specs.Matrix.{Vector, Matrix}
 use Rattle.lists.specs.Each.{each}
 use Rattle.cholesky.specs.declared.Factor3.{Factor3}
 use Rattle.cholesky.specs.Factor.{replyOfFactor3}
-use Rattle.filter.specs.declared.Expected.{Expected}
-use Rattle.filter.specs.Filter.{factorFrom, distanceWith, distanceFrom}
+use Rattle.filter.specs.Filter.{factorFrom, distanceWith}
 use Rattle.filter.proofs.Split.{distance-factored}
 use Rattle.detections.specs.declared.Class.{Class}
 use Rattle.detections.specs.declared.Detection.{Detection}
 use Rattle.detections.specs.declared.pairs.PairConfig.{PairConfig}
 use Rattle.detections.specs.declared.pairs.Target.{Target}
 use Rattle.detections.specs.declared.pairs.Rule.the-variants.{Classes}
-use Rattle.detections.specs.Pairs.{Ruling, forbidden, compatible, measured, verdictOf}
+use Rattle.detections.specs.Pairs.{Ruling, forbidden, compatible, measured, ruled, verdictOf}
 use Rattle.detections.proofs.Rules.{classes-forbid, distance-decides}
 use Rattle.calls.specs.Pairing.{costOf}
 use Rattle.pairing.specs.declared.Row.{Row}
 use Rattle.pairing.specs.Rows.{priceReply, rowCosts}
 use Rattle.pairing.specs.Laid.{front, ahead, Laid}
 use Rattle.sightings.specs.Sights.{sight, sightOf}
-use Rattle.cost_table.specs.declared.Held.{Held}
-use Rattle.cost_table.specs.Table.{Holds, withRows, frontRows, Tabled}
-
--- ---- the factor that is held
-
-module _ (m : Expected) (noises : List Vector) (k j : ℕ) (q : getD noises k [] ≡ getD noises j []) where
-  pub held-kept : (h : Held) → Holds m noises h → h .kin ≡ k → k < 64 → Holds m noises h × (replyOfFactor3 (h .factor) ≡ factorFrom m (getD noises j []))
-  held-kept h s e l = (s, s (rw e l) ∙ ap (λ (i : ℕ). factorFrom m (getD noises i [])) e ∙ ap (factorFrom m) q)
-
-  pub held-new : (f : Factor3) → replyOfFactor3 f ≡ factorFrom m (getD noises j []) → Holds m noises (record { kin = k; factor = f }) × (replyOfFactor3 f ≡ factorFrom m (getD noises j []))
-  held-new f e = ((λ l. e ∙ ap (factorFrom m) (sym q)), e)
+use Rattle.cost_table.specs.Table.{pricedBy, withRows, frontRows, Tabled}
 
 -- ---- a pair
 
 abbrev costs : Reply Ruling → Reply Float
 costs r = andThen r (λ v. given (costOf v))
 
-module _ (c : PairConfig) (t : Target) (z r : Vector) (seen : Class) where
-  pub priced-by : compatible (t .«class_label») seen ≡ true → (v : Reply Ruling) → v ≡ measured c (t .«class_prior») seen (distanceWith (t .expected) z (factorFrom (t .expected) r)) → costs v ≡ priceReply c t (sight z r seen)
-  unfolding priceReply verdictOf
-  priced-by h v e =
-      ap costs
-      (distance-decides c (t .«class_label») (t .«class_prior») seen (distanceFrom (t .expected) z r) h
-      (e ∙ ap (measured c (t .«class_prior») seen) (distance-factored (t .expected) z r)))
+module _ (c : PairConfig) (t : Target) (z : Vector) (seen : Class) where
+  -- by what the code does
+  pub priced-near : (factor : Reply Matrix) → compatible (t .«class_label») seen ≡ true → (v : Reply Ruling) → v ≡ measured c (t .«class_prior») seen (distanceWith (t .expected) z factor) → costs v ≡ pricedBy c t z seen factor
+  unfolding pricedBy
+  priced-near factor h v e = ap costs (distance-decides c (t .«class_label») (t .«class_prior») seen (distanceWith (t .expected) z factor) h e)
 
-  pub priced-apart : compatible (t .«class_label») seen ≡ false → costs (given (forbidden Classes)) ≡ priceReply c t (sight z r seen)
-  unfolding priceReply verdictOf
-  priced-apart h = ap costs (classes-forbid c (t .«class_label») (t .«class_prior») seen (distanceFrom (t .expected) z r) h)
+  pub priced-apart : (factor : Reply Matrix) → compatible (t .«class_label») seen ≡ false → costs (given (forbidden Classes)) ≡ pricedBy c t z seen factor
+  unfolding pricedBy
+  priced-apart factor h = ap costs (classes-forbid c (t .«class_label») (t .«class_prior») seen (distanceWith (t .expected) z factor) h)
+
+  -- by the factor for its own covariance
+  pub priced-own : (noise : Vector) → pricedBy c t z seen (factorFrom (t .expected) noise) ≡ priceReply c t (sight z noise seen)
+  unfolding pricedBy priceReply verdictOf
+  priced-own noise = ap (λ (d : Reply Float). costs (ruled c (t .«class_label») (t .«class_prior») seen d)) (distance-factored (t .expected) z noise)
+
+  module _ (noises : List Vector) (k j : ℕ) (same : getD noises k [] ≡ getD noises j []) where
+    -- by one that was just worked out
+    pub priced-new : (f : Factor3) → replyOfFactor3 f ≡ factorFrom (t .expected) (getD noises j []) → pricedBy c t z seen (replyOfFactor3 f) ≡ priceReply c t (sight z (getD noises j []) seen)
+    priced-new f e = ap (pricedBy c t z seen) e ∙ priced-own (getD noises j [])
+
+    -- by the one that is held, where it serves
+    pub priced-held : (f : Factor3) (held : ℕ) → (held < 64 → replyOfFactor3 f ≡ factorFrom (t .expected) (getD noises held [])) → k < 64 → (compatible (t .«class_label») seen ≡ true → held ≡ k)
+        → pricedBy c t z seen (replyOfFactor3 f) ≡ priceReply c t (sight z (getD noises j []) seen)
+    priced-held f held s l w = by (compatible (t .«class_label») seen) refl
+      where
+        by : (b : Bool) → compatible (t .«class_label») seen ≡ b → pricedBy c t z seen (replyOfFactor3 f) ≡ priceReply c t (sight z (getD noises j []) seen)
+        by true h = let e = w h in priced-new f (s (rw e l) ∙ ap (λ (i : ℕ). factorFrom (t .expected) (getD noises i [])) e ∙ ap (factorFrom (t .expected)) same)
+        by false h = sym (priced-apart (replyOfFactor3 f) h) ∙ priced-apart (factorFrom (t .expected) (getD noises j [])) h ∙ priced-own (getD noises j [])
 
 -- ---- a row for all that the arrays hold
 

@@ -1,29 +1,24 @@
 -- The cost table in one array. 01, Assignment: "The cost table is lent as 64-bit floats, row after row".
-use Prim.Native.Nat.{ℕ, _<_}
 use mathlib.Core.Path.{_≡_}
 use mathlib.Core.List.{List, [], _∷_, _++_}
 use lib.Ieee.{Float}
-use lib.ListN.{getD}
 use lib.Seq.{sets}
 use Rattle.number.specs.Reply.{Reply, refused, given, andThen}
-use Rattle.matrix.specs.Matrix.{Vector}
-use Rattle.cholesky.specs.Factor.{replyOfFactor3}
-use Rattle.filter.specs.declared.Expected.{Expected}
-use Rattle.filter.specs.Filter.{factorFrom}
+use Rattle.matrix.specs.Matrix.{Vector, Matrix}
+use Rattle.filter.specs.Filter.{distanceWith}
 use Rattle.detections.specs.declared.Class.{Class}
 use Rattle.detections.specs.declared.Detection.{Detection}
 use Rattle.detections.specs.declared.pairs.PairConfig.{PairConfig}
 use Rattle.detections.specs.declared.pairs.Target.{Target}
+use Rattle.detections.specs.Pairs.{ruled}
 use Rattle.types.specs.Refusals.{numberOf}
+use Rattle.calls.specs.Pairing.{costOf}
 use Rattle.lists.specs.Each.{each}
 use Rattle.pairing.specs.declared.Row.{Row}
 use Rattle.pairing.specs.Rows.{priceReply, rowCosts}
 use Rattle.pairing.specs.Laid.{front}
-use Rattle.sightings.specs.Sights.{sight}
 use Rattle.cost_table.specs.declared.Entry.{Entry}
 use Rattle.cost_table.specs.declared.Entry.the-variants.{Cost, Refused}
-use Rattle.cost_table.specs.declared.Held.{Held}
-use Rattle.cost_table.specs.declared.Priced.{Priced}
 
 -- ---- a pair
 
@@ -32,14 +27,9 @@ abbrev pub replyOfEntry : Entry → Reply Float
 replyOfEntry (Cost c) = given c
 replyOfEntry (Refused why) = refused (numberOf why)
 
--- what is held is the factor of S for the covariance that it is held for
-abbrev pub Holds : Expected → List Vector → Held → Type 0
-Holds m noises h = h .kin < 64 → replyOfFactor3 (h .factor) ≡ factorFrom m (getD noises (h .kin) [])
-
--- the cost of the pair with the detection at j
-pub record Prices (rule : PairConfig) (t : Target) (noises : List Vector) (j : ℕ) (z : Vector) (seen : Class) (r : Priced) : Type 0 where
-  pub is : replyOfEntry (r .entry) ≡ priceReply rule t (sight z (getD noises j []) seen)
-  pub holds : Holds (t .expected) noises (r .held)
+-- the cost of a pair by a factor of S
+unfoldable pub pricedBy : PairConfig → Target → Vector → Class → Reply Matrix → Reply Float
+pricedBy c t z seen factor = andThen (ruled c (t .«class_label») (t .«class_prior») seen (distanceWith (t .expected) z factor)) (λ r. given (costOf r))
 
 -- ---- the table
 

@@ -1,25 +1,23 @@
 // The costs of a batch's pairs: a row for each track, row after row in one array. The factor of S is worked out again only where the detections' covariance changes.
 ghost use mathlib.Core.Path.{_≡_};
-ghost use mathlib.Core.List.{[]};
-ghost use Prim.Native.Nat.{_+_, _≤_, _<_};
-ghost use lib.ListN.{take, getD};
+ghost use mathlib.Core.Bool.{true, false};
+ghost use Prim.Native.Nat.{_+_, _≤_};
+ghost use lib.ListN.{take};
 ghost use Rattle.number.specs.Reply.{given, andThen};
 ghost use Rattle.cholesky.specs.Factor.{replyOfFactor3};
-ghost use Rattle.filter.specs.Filter.{factorFrom};
-ghost use Rattle.detections.specs.Pairs.{replyOfVerdict};
+ghost use Rattle.detections.specs.Pairs.{compatible, replyOfVerdict};
 ghost use Rattle.types.specs.Refusals.{replyOf};
 ghost use Rattle.calls.specs.Pairing.{costOf};
 ghost use Rattle.pairing.specs.Laid.{Laid};
 ghost use Rattle.pairing.specs.Rows.{priceReply};
 ghost use Rattle.sightings.specs.Sights.{sightsIn, Kin};
-ghost use Rattle.cost_table.specs.Table.{replyOfEntry, Holds, Prices, Tabled};
+ghost use Rattle.cost_table.specs.Table.{replyOfEntry, pricedBy, Tabled};
 use detections::Class;
 use detections::Detection;
 use detections::pairs::PairConfig;
 use detections::pairs::Rule;
 use detections::pairs::Target;
 use detections::pairs::Verdict;
-use filter::Expected;
 use pairing::Row;
 use types::MAX_OBSERVATIONS;
 use types::MAX_TRACKS;
@@ -30,18 +28,6 @@ use types::refusal::Refusal;
 pub enum Entry {
     Cost(f64),
     Refused(Refusal),
-}
-
-// The factor of S that was worked out last, for the covariance of the detection at `kin`; 64 is none.
-pub struct Held {
-    pub kin: usize,
-    pub factor: cholesky::Factor3,
-}
-
-// What a pair costs, and the factor that is held after it.
-pub struct Priced {
-    pub entry: Entry,
-    pub held: Held,
 }
 
 // A forbidden pair costs +infinity.
@@ -55,48 +41,29 @@ fn entry_of(verdict: Verdict) -> Entry
     }
 }
 
-// The factor for the detection at j, whose covariance is that at k: the one that is held, where it is the factor for that.
-// A leaf, as the two below it: the row's loop holds nothing at first, and reads k among the kin.
-fn hold(held: Held, m: Expected, noises: &[[f64; 9]; 64], k: usize, j: usize) -> Held
-    requires { ⌜ (j < 64) × (k < 64) × (getD (now noises) k [] ≡ getD (now noises) j []) × Holds m (now noises) held ⌝ }
-    ensures { λ r. ⌜ Holds m (now (noises .entry)) r × (replyOfFactor3 (r .factor) ≡ factorFrom m (getD (now (noises .entry)) j [])) ⌝ }
+// Whether a pair needs another factor of S than the one that is held for the covariance at `held`. Where the classes forbid it, it needs none. That it says yes is open: it costs time alone.
+fn is_due(class: Class, seen: Class, held: usize, k: usize) -> bool
+    ensures { λ r. ⌜ (r ≡ false → compatible class seen ≡ true → held ≡ k) ⌝ }
 {
-    if held.kin == k {
-        return held;
-    }
-    let noise = noises[j];
-    Held {
-        kin: k,
-        factor: filter::factor_from(m, noise),
+    if detections::pairs::classes_compatible(class, seen) {
+        if held == k { false } else { true }
+    } else {
+        false
     }
 }
 
-// The cost of the pair of a track and the detection at j, which is seen at z with a class. Where the classes forbid it, no factor is worked out.
-fn price_at(
-    t: Target,
-    held: Held,
-    noises: &[[f64; 9]; 64],
-    k: usize,
-    j: usize,
-    z: [f64; 3],
-    seen: Class,
-    rule: PairConfig,
-) -> Priced
-    requires { ⌜ (j < 64) × (k < 64) × (getD (now noises) k [] ≡ getD (now noises) j []) × Holds (t .expected) (now noises) held ⌝ }
-    ensures { λ r. ⌜ Prices rule t (now (noises .entry)) j z seen r ⌝ }
+// The cost of the pair of a track and a detection that is seen at z with a class, by the factor of S.
+fn price(t: Target, factor: cholesky::Factor3, z: [f64; 3], seen: Class, rule: PairConfig) -> Entry
+    ensures { λ r. ⌜ replyOfEntry r ≡ pricedBy rule t z seen (replyOfFactor3 factor) ⌝ }
 {
     let expected = t.expected;
     let class = t.class_label;
     let prior = t.class_prior;
     if detections::pairs::classes_compatible(class, seen) {
-        let next = hold(held, expected, noises, k, j);
-        let factor = next.factor;
         let distance = filter::distance_by(expected, z, factor);
-        let entry = entry_of(detections::pairs::verdict_at(distance, prior, seen, rule));
-        Priced { entry, held: next }
+        entry_of(detections::pairs::verdict_at(distance, prior, seen, rule))
     } else {
-        let entry = entry_of(Verdict::Forbidden(Rule::Classes));
-        Priced { entry, held }
+        entry_of(Verdict::Forbidden(Rule::Classes))
     }
 }
 
@@ -116,19 +83,21 @@ fn price_row(
     requires { ⌜ (m ≤ 64) × (at + m ≤ 4096) × Kin (now noises) m (now kin) ⌝ }
     ensures { λ r. ⌜ Laid (priceReply rule t) (sightsIn (now (positions .entry)) (now (noises .entry)) (now (labels .entry)) (now (labelled .entry)) m) at (replyOf r) (now (costs .entry)) (now (costs .exit)) ⌝ }
 {
-    let mut held = Held {
-        kin: 64,
-        factor: cholesky::Factor3::Fails,
-    };
+    let expected = t.expected;
+    let class = t.class_label;
+    let mut held: usize = 64;
+    let mut factor = cholesky::Factor3::Fails;
     let mut j: usize = 0;
     while j < m {
         let seen = sightings::class_at(labels, labelled, j);
         let k = kin[j];
+        if is_due(class, seen, held, k) {
+            let noise = noises[j];
+            factor = filter::factor_from(expected, noise);
+            held = k;
+        }
         let z = positions[j];
-        let priced = price_at(t, held, noises, k, j, z, seen, rule);
-        held = priced.held;
-        let entry = priced.entry;
-        match entry {
+        match price(t, factor, z, seen, rule) {
             Entry::Cost(cost) => {
                 costs[at + j] = cost;
                 j += 1;
