@@ -30,17 +30,19 @@ verdict-code (given v) = refl
 
 module _ (t u : PkTracker) (code : ℕ) (reply : Reply State) (h : Runs t u code reply) where
   pub run-carried : code ≡ 0 → record { tracker = u; code = 0 } ≡ answerOf t reply
+  unfolding pkAfter
   run-carried e = go reply refl
     where
       go : (r : Reply State) → reply ≡ r → record { tracker = u; code = 0 } ≡ answerOf t reply
       go (refused n) w = absurd (let k : code ≡ n = h .is ∙ ap codeOf w in let z = h .heeded n w in omega arith)
-      go (given s) w = (unfold pkAfter in ap (λ (x : PkTracker). record { tracker = x; code = 0 }) (h .whole s w)) ∙ ap (answerOf t) (sym w)
+      go (given s) w = ap (λ (x : PkTracker). record { tracker = x; code = 0 }) (h .whole s w) ∙ ap (answerOf t) (sym w)
 
   pub run-refused : (code ≡ 0 → ⊥) → record { tracker = t; code = code } ≡ answerOf t reply
+  unfolding pkAfter
   run-refused e = go reply refl
     where
       go : (r : Reply State) → reply ≡ r → record { tracker = t; code = code } ≡ answerOf t reply
-      go (refused n) w = (unfold pkAfter in ap (λ (k : ℕ). record { tracker = t; code = k }) (h .is ∙ ap codeOf w)) ∙ ap (answerOf t) (sym w)
+      go (refused n) w = ap (λ (k : ℕ). record { tracker = t; code = k }) (h .is ∙ ap codeOf w) ∙ ap (answerOf t) (sym w)
       go (given s) w = absurd (e (h .is ∙ ap codeOf w))
 
 -- ---- a call of the tracker
