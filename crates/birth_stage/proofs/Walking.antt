@@ -158,7 +158,7 @@ module _ (pairs : List Pair) (ds : List Detection) (m n : ℕ) (sp : length pair
 
 -- ---- what is told of each
 
-told-length : (i : ℕ) (l : List Fate) → length (associationsFrom i l) ≡ length l
+pub told-length : (i : ℕ) (l : List Fate) → length (associationsFrom i l) ≡ length l
 unfolding associationsFrom
 told-length i [] = refl
 told-length i (f ∷ l) = ap suc (told-length (suc i) l)
@@ -170,7 +170,7 @@ told-snoc i (x ∷ l) f =
     let z : i + suc (length l) ≡ suc i + length l = omega arith in
     rw z (ap {B = List ObservationAssociation} (λ r. associationOf i x ∷ r) (told-snoc (suc i) l f))
 
-told-more : (l : List Fate) (f : Fate) (j : ℕ) → length l ≡ j → j < 64 → set (lay (associationsFrom 0 l) blanks) j (associationOf j f) ≡ lay (associationsFrom 0 (l ++ (f ∷ []))) blanks
+pub told-more : (l : List Fate) (f : Fate) (j : ℕ) → length l ≡ j → j < 64 → set (lay (associationsFrom 0 l) blanks) j (associationOf j f) ≡ lay (associationsFrom 0 (l ++ (f ∷ []))) blanks
 told-more l f j e h =
     let z : length (associationsFrom 0 l) ≡ j = told-length 0 l ∙ e in
     let w : 0 + length l ≡ j = omega (arith, e) in

@@ -30,7 +30,7 @@ pub struct Walked {
     pub associations: [ObservationAssociation; MAX_OBSERVATIONS],
 }
 
-fn alone(j: usize) -> ObservationAssociation
+pub fn alone(j: usize) -> ObservationAssociation
     ensures { λ r. ⌜ r ≡ associationOf j unmatched ⌝ }
 {
     ObservationAssociation {
@@ -41,7 +41,7 @@ fn alone(j: usize) -> ObservationAssociation
     }
 }
 
-fn paired(j: usize, id: u64, cost: f64) -> ObservationAssociation
+pub fn paired(j: usize, id: u64, cost: f64) -> ObservationAssociation
     ensures { λ r. ⌜ r ≡ associationOf j (updated (record { track = id; cost = cost })) ⌝ }
 {
     ObservationAssociation {
@@ -52,7 +52,7 @@ fn paired(j: usize, id: u64, cost: f64) -> ObservationAssociation
     }
 }
 
-fn begun(j: usize, id: u64) -> ObservationAssociation
+pub fn begun(j: usize, id: u64) -> ObservationAssociation
     ensures { λ r. ⌜ r ≡ associationOf j (spawned id) ⌝ }
 {
     ObservationAssociation {

@@ -1,4 +1,4 @@
-// The calls on the record that a C program holds, track by track in the record itself: each track is read, moved and stored again, and no table is converted. So far the prediction.
+// The calls on the record that a C program holds, track by track in the record itself: each track is read, moved and stored again, and no table is converted. So far the prediction; the laws of a batch's three loops stand in proofs/.
 ghost use mathlib.Core.Path.{_≡_};
 ghost use mathlib.Core.Bool.{cond};
 ghost use Prim.Native.Nat.{min};

@@ -1,11 +1,13 @@
 // What the score and the confirmed tracks say of a detection that no track took.
 ghost use mathlib.Core.Path.{_≡_};
+ghost use lib.ListN.{replicate};
+ghost use Rattle.matrix.specs.Matrix.{nought};
 ghost use Rattle.settings.specs.Optional.{f64Of, u32Of, setAnd};
 ghost use Rattle.lists.specs.First.{any};
 ghost use Rattle.detections.specs.Births.{scoreBelow, nearer};
 ghost use Rattle.types.specs.States.{tracksOf};
 ghost use Rattle.calls.specs.Births.{isConfirmed, confirmedPlaces, lowScore, nearConfirmed};
-ghost use Rattle.spawning.specs.Ruling.{spotOf, laidOut, placesOf, suppressedBy, rulingOf};
+ghost use Rattle.spawning.specs.Ruling.{spotAt, spotOf, laidOut, placesOf, suppressedBy, rulingOf};
 use detections::Detection;
 use detections::Score;
 use lifecycle::TrackLifecycleState;
@@ -46,12 +48,28 @@ fn is_confirmed(state: TrackLifecycleState) -> bool
     }
 }
 
-fn spot_of(x: Track3D) -> Spot
+pub fn spot_of(x: Track3D) -> Spot
     ensures { λ r. ⌜ r ≡ spotOf x ⌝ }
 {
     let f = x.filter;
     let position = [f.state[0], f.state[1], f.state[2]];
     Spot { position }
+}
+
+// Whether a track is confirmed.
+pub fn is_confirmed_track(x: Track3D) -> bool
+    ensures { λ r. ⌜ r ≡ isConfirmed (x .lifecycle .state) ⌝ }
+{
+    let l = x.lifecycle;
+    let state = l.state;
+    is_confirmed(state)
+}
+
+// What stands where no place is.
+pub fn no_spot() -> Spot
+    ensures { λ r. ⌜ r ≡ spotAt (replicate 3 nought) ⌝ }
+{
+    Spot { position: [0.0; 3] }
 }
 
 // The places of the confirmed tracks, in the table's order.

@@ -35,7 +35,7 @@ use Rattle.moving.specs.Steps.{withTime}
 use Rattle.association.specs.declared.Pair.{Pair}
 use Rattle.birth_stage.specs.declared.Walked.{Walked}
 use Rattle.birth_stage.specs.Walk.{birthsAfter, blanks, toldIn, Walks}
-use Rattle.birth_stage.proofs.Walking.{columns-length}
+use Rattle.birth_stage.proofs.Walking.{told-length, columns-length}
 use Rattle.birth_stage.proofs.Growing.{Grows, after-grows}
 use Rattle.stages.specs.declared.Reported.{Reported}
 use Rattle.stages.specs.Stages.{refusedWith, matchedIn, Finishes}
@@ -71,11 +71,6 @@ sequence-noted u v x s sensor q ev room ex =
     ∙ sequences-again u s (noted sensor q (s .sequences)) (noted-longer sensor q (s .sequences))
 
 -- ---- the births of a batch
-
-told-length : (i : ℕ) (l : List Fate) → length (associationsFrom i l) ≡ length l
-unfolding associationsFrom
-told-length i [] = refl
-told-length i (f ∷ l) = ap suc (told-length (suc i) l)
 
 module _ (u : Cartesian3DTracker) (b : ObservationBatch3D) (pairs : List Pair) (ids : List ℕ) (k : ℕ) where
   abbrev m : Matched

@@ -6,7 +6,9 @@ use Prim.Native.Nat.{ℕ, _≤_}
 use native.Mathlib.Omega.{arith}
 use lib.ListN.{length, take, length-take}
 use Rattle.number.specs.Reply.{Reply, refused, given, andThen, leftIn}
+use lib.IntN.{ℤ}
 use Rattle.settings.specs.Optional.{i64Of}
+use Rattle.settings.specs.declared.Cartesian3DTrackerConfig.{Cartesian3DTrackerConfig}
 use Rattle.detections.specs.declared.Detection.{Detection}
 use Rattle.types.specs.declared.batch.ObservationBatch3D.{ObservationBatch3D}
 use Rattle.types.specs.declared.refusal.Refusal.{Refusal}
@@ -25,7 +27,7 @@ use Rattle.calls.specs.Pairing.{pairConfig}
 use Rattle.calls.specs.Update.{Matched, updatedBy, updates}
 use Rattle.matching.specs.declared.Paired.{Paired}
 use Rattle.association.specs.Told.{mateOf, columnsFrom}
-use Rattle.matching.specs.Stage.{Matches}
+use Rattle.matching.specs.Stage.{takersFor, Matches}
 use Rattle.association.proofs.Ties.{each-by-mates, chosen-passed}
 use Rattle.matching.proofs.Ties.{takers-for-long, stage-refused, stage-given}
 use Rattle.moving.specs.declared.TrackerStep.{TrackerStep}
@@ -34,6 +36,30 @@ use Rattle.updating.specs.declared.Update.{Update}
 use Rattle.updating.specs.Updates.{updateOf, updatedOrNot, updatedTracks}
 use Rattle.updating.proofs.Checked.{updates-checked}
 use Rattle.stages.specs.Stages.{seenIn, takersIn, matchReply, MatchAnswers}
+
+-- Each detection that a track took has passed its check, so that the updates by the mates, which ask for no check, are those of calls.
+module _ (c : Cartesian3DTrackerConfig) (sensor : ℕ) (now : ℤ) (ts : List Track3D) (few : length ts ≤ 64) (seen : List Detection) (m : ℕ) (sd : length seen ≡ 64) (r : Paired)
+    (a : Matches (pairConfig c) ts (take m seen) (takersFor (pairConfig c) (i64Of (c .«recent_track_window_ns»)) now ts (take m seen)) r)
+    (passed : detectionsReply (take m seen) ≡ given tt) (done : r .outcome ≡ outcome.Done) where
+  abbrev reply : Reply (List (Option ℕ))
+  reply = takersFor (pairConfig c) (i64Of (c .«recent_track_window_ns»)) now ts (take m seen)
+
+  pub updates-by-mates : eachAt (λ i x. updatedOrNot (updateOf c sensor now) x (mateOf (r .mates) seen i)) 0 ts ≡ updates c sensor now (mateOf (r .mates) seen) ts
+  unfolding updates
+  updates-by-mates = go reply refl
+    where
+      is : (x : Reply (List (Option ℕ))) → reply ≡ x → _≡_ {A = Reply (Unit {0})} (given (tt {0})) (andThen x (λ takers. given (tt {0})))
+      is x w = ap {B = Reply (Unit {0})} replyOf (sym done) ∙ a .outcome ∙ ap (λ (y : Reply (List (Option ℕ))). andThen y (λ takers. given tt)) w
+
+      go : (x : Reply (List (Option ℕ))) → reply ≡ x
+          → eachAt (λ i x. updatedOrNot (updateOf c sensor now) x (mateOf (r .mates) seen i)) 0 ts ≡ eachAt (λ i x. updatedBy c sensor now x (mateOf (r .mates) seen i)) 0 ts
+      go (refused k) w = never-given k tt (sym (is (refused k) w))
+      go (given t) w =
+          let long = takers-for-long (pairConfig c) (i64Of (c .«recent_track_window_ns»)) now ts (take m seen) t w in
+          let k = subst (λ (x : Reply (List (Option ℕ))). Matches (pairConfig c) ts (take m seen) x r) w a .mates in
+          each-by-mates t (r .mates) seen m k sd long (updatedOrNot (updateOf c sensor now)) ts few
+          ∙ (unfold updates in updates-checked c sensor now (takenBy t (take m seen)) (λ i d e. chosen-passed t (take m seen) i d passed e) ts)
+          ∙ sym (each-by-mates t (r .mates) seen m k sd long (updatedBy c sensor now) ts few)
 
 module _ (u : Cartesian3DTracker) (b : ObservationBatch3D) (st : length (u .tracks) ≡ 64) (sd : length (b .observations) ≡ 64) (r : Paired)
     (a : Matches (pairConfig (u .config)) (tracksOf u) (seenIn b) (takersIn u b) r) where
@@ -61,22 +87,8 @@ module _ (u : Cartesian3DTracker) (b : ObservationBatch3D) (st : length (u .trac
   few = let q = length-take (u .«track_count») (u .tracks) in omega arith
 
   module _ (passed : detectionsReply (seenIn b) ≡ given tt) (done : r .outcome ≡ outcome.Done) where
-    -- each detection that a track took has passed its check
     checked : eachAt (λ i x. updatedOrNot how x (took i)) 0 (tracksOf u) ≡ updating
-    unfolding updates
-    checked = go (takersIn u b) refl
-      where
-        is : (x : Reply (List (Option ℕ))) → takersIn u b ≡ x → _≡_ {A = Reply (Unit {0})} (given (tt {0})) (andThen x (λ takers. given (tt {0})))
-        is x w = ap {B = Reply (Unit {0})} replyOf (sym done) ∙ a .outcome ∙ ap (λ (y : Reply (List (Option ℕ))). andThen y (λ takers. given tt)) w
-
-        go : (x : Reply (List (Option ℕ))) → takersIn u b ≡ x → eachAt (λ i x. updatedOrNot how x (took i)) 0 (tracksOf u) ≡ eachAt (λ i x. updatedBy (u .config) (b .«sensor_id») (b .timestamp) x (took i)) 0 (tracksOf u)
-        go (refused k) w = never-given k tt (sym (is (refused k) w))
-        go (given t) w =
-            let long = takers-for-long (pairConfig (u .config)) (i64Of (u .config .«recent_track_window_ns»)) (b .timestamp) (tracksOf u) (seenIn b) t w in
-            let m = subst (λ (x : Reply (List (Option ℕ))). Matches (pairConfig (u .config)) (tracksOf u) (seenIn b) x r) w a .mates in
-            each-by-mates t (r .mates) (b .observations) (b .count) m sd long (updatedOrNot how) (tracksOf u) few
-            ∙ (unfold updates in updates-checked (u .config) (b .«sensor_id») (b .timestamp) (takenBy t (seenIn b)) (λ i d e. chosen-passed t (seenIn b) i d passed e) (tracksOf u))
-            ∙ sym (each-by-mates t (r .mates) (b .observations) (b .count) m sd long (updatedBy (u .config) (b .«sensor_id») (b .timestamp)) (tracksOf u) few)
+    checked = updates-by-mates (u .config) (b .«sensor_id») (b .timestamp) (tracksOf u) few (b .observations) (b .count) sd r a passed done
 
     all-updated : updatedTracks u took how ≡ andThen updating (λ ts. given (overTracks u ts))
     unfolding updatedTracks

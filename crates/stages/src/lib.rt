@@ -12,7 +12,6 @@ ghost use Rattle.batches.specs.Check.{detectionsReply};
 ghost use Rattle.calls.specs.Pairing.{pairConfig};
 ghost use Rattle.calls.specs.Answers.{Answers};
 ghost use Rattle.matching.specs.Stage.{Matches};
-ghost use Rattle.updating.specs.Updates.{updateOf};
 ghost use Rattle.stages.specs.Stages.{refusedWith, preparedState, seenIn, takersIn, MatchAnswers, matchedIn, Finishes};
 use association::Pair;
 use detections::pairs::PairConfig;
@@ -32,7 +31,6 @@ use types::batch::ObservationOutcome;
 use types::refusal::Outcome;
 use types::refusal::Refusal;
 use types::tracker::Cartesian3DTracker;
-use updating::Update;
 
 // Whether a batch was carried out, the tracker after it, and the report, which is blank beside a refusal.
 pub struct Reported {
@@ -58,7 +56,7 @@ pub fn with_counts(mut t: Cartesian3DTracker) -> Cartesian3DTracker
     t
 }
 
-fn blank_report() -> BatchReport3D
+pub fn blank_report() -> BatchReport3D
     ensures { λ r. ⌜ r ≡ blankReport ⌝ }
 {
     let blank = ObservationAssociation {
@@ -109,21 +107,6 @@ pub fn prepare(t: Cartesian3DTracker, time: i64) -> TrackerStep
     }
 }
 
-// What of the batch and the settings an update depends on.
-fn update_of(config: Cartesian3DTrackerConfig, sensor: u32, time: i64) -> Update
-    ensures { λ r. ⌜ r ≡ updateOf config sensor time ⌝ }
-{
-    let deviation = config.velocity_measurement_std;
-    let lifecycle = config.lifecycle;
-    Update {
-        time,
-        sensor,
-        limit: config.max_contributing_sensors,
-        deviation,
-        lifecycle,
-    }
-}
-
 // Stage 5 and what comes before it: the pairing of the tracks with the batch's detections.
 fn pair(u: Cartesian3DTracker, batch: ObservationBatch3D) -> Paired
     ensures { λ r. ⌜ Matches (pairConfig (u .config)) (tracksOf u) (seenIn batch) (takersIn u batch) r ⌝ }
@@ -166,7 +149,7 @@ pub fn match_tracks(u: Cartesian3DTracker, batch: ObservationBatch3D) -> Matchin
             paired,
         },
         Outcome::Done => {
-            let update = update_of(config, batch.sensor_id, batch.timestamp);
+            let update = updating::update_of(config, batch.sensor_id, batch.timestamp);
             let step = updating::update_tracks(u, observations, mates, update);
             let after = step.outcome;
             let tracker = step.tracker;

@@ -1,5 +1,7 @@
 // What a detection does to the track that it is paired with.
 ghost use mathlib.Core.Path.{_≡_};
+ghost use mathlib.Core.Bool.{cond};
+ghost use mathlib.Core.Option.{none, some};
 ghost use Rattle.number.specs.Reply.{given, andThen};
 ghost use Rattle.lifecycle.specs.Lifecycle.{registeredOf};
 ghost use Rattle.settings.specs.Optional.{f64Of};
@@ -7,7 +9,7 @@ ghost use Rattle.filter.specs.Filter.{Answer, replyOfStep};
 ghost use Rattle.types.specs.Track.{withFilter, withLifecycle};
 ghost use Rattle.calls.specs.Update.{movingOf, velocityUpdated, labelledBy};
 ghost use Rattle.moving.specs.Steps.{TrackAnswers, TrackerAnswers};
-ghost use Rattle.updating.specs.Updates.{corrected, observedAs, updatedAs, updatedTracks};
+ghost use Rattle.updating.specs.Updates.{updateOf, corrected, observedAs, updatedAs, updatedOrNot, updatedTracks};
 ghost use Rattle.association.specs.Told.{mateOf};
 use detections::Class;
 use detections::Detection;
@@ -16,6 +18,7 @@ use filter::KalmanFilter;
 use lifecycle::LifecycleConfig;
 use moving::TrackStep;
 use moving::TrackerStep;
+use settings::Cartesian3DTrackerConfig;
 use settings::optional::OptionalF64;
 use types::MAX_OBSERVATIONS;
 use types::MAX_TRACKS;
@@ -153,6 +156,35 @@ pub fn update_track(x: Track3D, d: Detection, u: Update) -> TrackStep
     let seen = d.class_label;
     let deviation = u.deviation;
     finish(x, correct(f, d, deviation), seen, u)
+}
+
+// What of the batch and the settings an update depends on.
+pub fn update_of(config: Cartesian3DTrackerConfig, sensor: u32, time: i64) -> Update
+    ensures { λ r. ⌜ r ≡ updateOf config sensor time ⌝ }
+{
+    let deviation = config.velocity_measurement_std;
+    let lifecycle = config.lifecycle;
+    Update {
+        time,
+        sensor,
+        limit: config.max_contributing_sensors,
+        deviation,
+        lifecycle,
+    }
+}
+
+// The track after the detection that it took, where it took one.
+pub fn update_where(x: Track3D, taken: bool, d: Detection, u: Update) -> TrackStep
+    ensures { λ r. ⌜ TrackAnswers x r (updatedOrNot u x (cond taken (some d) none)) ⌝ }
+{
+    if taken {
+        update_track(x, d, u)
+    } else {
+        TrackStep {
+            outcome: Outcome::Done,
+            track: x,
+        }
+    }
 }
 
 // All tracks in order, each with the detection that it took: `mates` has its place, or 64 and more where the track took none.
