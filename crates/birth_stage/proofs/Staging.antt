@@ -31,7 +31,7 @@ positions : (l : List Vector) → map (λ (s : Spot). s .position) (map spotAt l
 positions [] = refl
 positions (x ∷ l) = ap {B = List Vector} (λ r. x ∷ r) (positions l)
 
-placed : (p : Places) (l : List Vector) → p ≡ laidOut l → placesOf p ≡ l
+pub placed : (p : Places) (l : List Vector) → p ≡ laidOut l → placesOf p ≡ l
 unfolding placesOf laidOut
 placed p l e =
     ap (λ (q : Places). map (λ (s : Spot). s .position) (take (q .count) (q .items))) e

@@ -3,22 +3,25 @@ use mathlib.Core.Path.{_≡_, refl, sym, ap, subst, _∙_}
 use Prim.Native.Nat.{ℕ, _<_}
 use native.Mathlib.Omega.{arith}
 use Rattle.number.specs.Reply.{Reply, refused, given, codeOf}
+use Rattle.number.proofs.Replies.{never-given}
 use Rattle.types.specs.declared.batch.ObservationBatch3D.{ObservationBatch3D}
-use Rattle.types.specs.declared.batch.BatchReport3D.{BatchReport3D}
+use Rattle.types.specs.declared.refusal.Refusal.{Refusal}
 use Rattle.types.specs.declared.refusal.Outcome.{Outcome}
 use Rattle.types.specs.declared.refusal.Outcome.the-variants as outcome
 use Rattle.types.specs.declared.tracker.Cartesian3DTracker.{Cartesian3DTracker}
 use Rattle.types.specs.Refusals.{numberOf, replyOf}
 use Rattle.types.specs.States.{State}
 use Rattle.calls.specs.Process.{Done}
-use Rattle.calls.specs.Run.{stateGiven}
-use Rattle.calls.specs.Answers.{Answers, BatchAnswers, verdictOn, reportAfter}
+use Rattle.calls.specs.Answers.{Answers, verdictOn, reportAfter}
 use Rattle.records.specs.declared.tracker.PkTracker.{PkTracker}
 use Rattle.records.specs.Trackers.{trackerOf, pkAfter}
 use Rattle.records.proofs.Overs.{laid-over}
 use Rattle.batch_records.specs.declared.PkBatch.{PkBatch}
+use Rattle.batch_records.specs.declared.PkReport.{PkReport}
 use Rattle.batch_records.specs.Batches.{batchOf, reportTo}
 use Rattle.owner.specs.Owner.{Runs}
+use Rattle.owner.specs.declared.batch.Ran.{Ran}
+use Rattle.owner.specs.Processes.{batchReplyOn, Processes}
 use Rattle.owner.proofs.Predicting.{number-above}
 use Rattle.c_tracker.specs.Calls.{Heeded, settled, answerOf, processedBy, batchOn, batchAnswer}
 
@@ -45,6 +48,43 @@ module _ (t u : PkTracker) (code : ℕ) (reply : Reply State) (h : Runs t u code
       go (refused n) w = ap (λ (k : ℕ). record { tracker = t; code = k }) (h .is ∙ ap codeOf w) ∙ ap (answerOf t) (sym w)
       go (given s) w = absurd (e (h .is ∙ ap codeOf w))
 
+-- ---- a batch that was worked out in the record itself
+
+module _ (t : PkTracker) (b : PkBatch) (r : Ran) (y : ObservationBatch3D) (e : y ≡ batchOf b) (h : Processes t y r) where
+  reply-is : batchReplyOn t y ≡ batchOn t b
+  reply-is = ap (batchReplyOn t) e
+
+  pub batch-carried : (report : PkReport) → r .outcome ≡ outcome.Done → report ≡ reportTo 0 (r .report) → (record { tracker = r .tracker; report = report } ≡ batchAnswer t b) × Heeded (batchOn t b)
+  unfolding batchAnswer pkAfter
+  batch-carried report d q = go (batchOn t b) refl
+    where
+      done : (x : Reply Done) → batchOn t b ≡ x → _≡_ {A = Reply (Unit {0})} (given tt) (verdictOn x)
+      done x w = ap {B = Reply (Unit {0})} replyOf (sym d) ∙ h .is ∙ ap verdictOn (reply-is ∙ w)
+
+      go : (x : Reply Done) → batchOn t b ≡ x → (record { tracker = r .tracker; report = report } ≡ batchAnswer t b) × Heeded (batchOn t b)
+      go (refused n) w = never-given n tt (sym (done (refused n) w))
+      go (given x) w =
+          ((λ i. record { tracker = h .whole x (reply-is ∙ w) i; report = (q ∙ ap (reportTo 0) (h .reported ∙ ap reportAfter (reply-is ∙ w))) i }) ∙ ap (processedBy t) (sym w), λ n f. never-given n x (sym f ∙ w))
+
+  pub batch-refused : (why : Refusal) (report : PkReport) → r .outcome ≡ outcome.Refused why → report ≡ reportTo (numberOf why) (r .report) → (record { tracker = t; report = report } ≡ batchAnswer t b) × Heeded (batchOn t b)
+  unfolding batchAnswer pkAfter
+  batch-refused why report d q = go (batchOn t b) refl
+    where
+      is : (x : Reply Done) → batchOn t b ≡ x → _≡_ {A = Reply (Unit {0})} (refused (numberOf why)) (verdictOn x)
+      is x w = ap {B = Reply (Unit {0})} replyOf (sym d) ∙ h .is ∙ ap verdictOn (reply-is ∙ w)
+
+      go : (x : Reply Done) → batchOn t b ≡ x → (record { tracker = t; report = report } ≡ batchAnswer t b) × Heeded (batchOn t b)
+      go (given x) w = never-given (numberOf why) tt (is (given x) w)
+      go (refused n) w =
+          let f : _≡_ {A = Reply (Unit {0})} (refused (numberOf why)) (refused n) = is (refused n) w in
+          let same : numberOf why ≡ n = cc in (
+            (λ i. record { tracker = t; report = (q ∙ (λ k. reportTo (same k) ((h .reported ∙ ap reportAfter (reply-is ∙ w)) k))) i }) ∙ ap (processedBy t) (sym w),
+            λ m g. (let s : m ≡ n = numbers m n (sym g ∙ w) in subst (λ (k : ℕ). 0 < k) (same ∙ sym s) (number-above why)),
+          )
+        where
+          numbers : (m n : ℕ) → _≡_ {A = Reply Done} (refused m) (refused n) → m ≡ n
+          numbers m n e = cc
+
 -- ---- a call of the tracker
 
 module _ (t : PkTracker) (u : Cartesian3DTracker) where
@@ -68,20 +108,3 @@ module _ (t : PkTracker) (u : Cartesian3DTracker) where
   -- both
   pub answer-is : (o : Outcome) (reply : Reply State) → Answers (trackerOf t) u o reply → record { tracker = settled t o u; code = codeOf (replyOf o) } ≡ answerOf t reply
   answer-is o reply h = λ i. record { tracker = settled-is o reply h i; code = code-is o reply h i }
-
-  -- of a batch's answer the number is that of its state
-  given-code : (reply : Reply Done) → codeOf (stateGiven reply) ≡ codeOf reply
-  given-code (refused n) = refl
-  given-code (given d) = refl
-
-  processed-is : (o : Outcome) (report : BatchReport3D) (reply : Reply Done) → Answers (trackerOf t) u o (stateGiven reply) → report ≡ reportAfter reply
-      → record { tracker = settled t o u; report = reportTo (codeOf (replyOf o)) report } ≡ processedBy t reply
-  processed-is o report reply h e = λ i. record { tracker = settled-is o (stateGiven reply) h i; report = reportTo ((code-is o (stateGiven reply) h ∙ given-code reply) i) (e i) }
-
-  -- a batch, on what the record was read as
-  pub batch-is : (b : PkBatch) (x : Cartesian3DTracker) (y : ObservationBatch3D) (o : Outcome) (report : BatchReport3D) → x ≡ trackerOf t → y ≡ batchOf b → BatchAnswers x y u o report
-      → (record { tracker = settled t o u; report = reportTo (codeOf (replyOf o)) report } ≡ batchAnswer t b) × Heeded (batchOn t b)
-  unfolding batchAnswer trackerOf
-  batch-is b x y o report e f h =
-      let k = subst (λ (z : ObservationBatch3D). BatchAnswers (trackerOf t) z u o report) f (subst (λ (z : Cartesian3DTracker). BatchAnswers z y u o report) e h) in
-      (processed-is o report (batchOn t b) (k .tracker) (k .reported), λ n e. heeded o (stateGiven (batchOn t b)) (k .tracker) n (ap stateGiven e))

@@ -5,6 +5,7 @@ use mathlib.Core.List.{List, [], _∷_, _++_, map, append-nil}
 use mathlib.Core.Option.{Option, none, some}
 use Prim.Native.Nat.{ℕ, _+_, _≤_, _<_}
 use native.Mathlib.Omega.{arith}
+use borrow.Author.Tests.{ltb-true}
 use lib.Dec.{ltb}
 use lib.ListN.{length, take, getD, set, length-map, length-append}
 use Rattle.number.specs.Reply.{Reply, refused, given, andThen}
@@ -61,6 +62,14 @@ module _ (p : List Track3D) (spots : List Spot) (near : ℕ) (y : Track3D) (s : 
             ∙ set-lay (map spotAt l) noSpots (spotAt x) room
             ∙ ap (λ (r : List Spot). lay r noSpots) (sym (map-append spotAt l (x ∷ [])) ∙ ap (map spotAt) (sym q));
       }
+
+-- the place that the code reads is one
+pub place-few : (j n : ℕ) → n ≡ cond (ltb j 64) j 0 → n < 64
+place-few j n e = go (ltb j 64) refl
+  where
+    go : (b : Bool) → ltb j 64 ≡ b → n < 64
+    go true h = let k : n ≡ j = e ∙ rw h in omega (arith, ltb-true j 64 h)
+    go false h = let k : n ≡ 0 = e ∙ rw h in omega arith
 
 -- ---- the tracks
 

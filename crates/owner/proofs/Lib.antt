@@ -5,3 +5,4 @@ pub mod Noting
 pub mod Correcting
 pub mod Bearing
 pub mod Parts
+pub mod Joining

@@ -45,7 +45,7 @@ pub noted-start : (m : List PkTrack) → Noted m (replicate 64 blankRow) 0
 noted-start m = unfold lay in refl
 
 -- the front with one more behind it
-take-set : {A : Type 0} (m : List A) (j : ℕ) (x : A) → j < length m → take (j + 1) (set m j x) ≡ take j m ++ (x ∷ [])
+pub take-set : {A : Type 0} (m : List A) (j : ℕ) (x : A) → j < length m → take (j + 1) (set m j x) ≡ take j m ++ (x ∷ [])
 take-set m j x h =
     let l = take j m ++ (x ∷ []) in
     let long : j + 1 ≡ length l = sym (length-append (take j m) (x ∷ []) ∙ ap (λ (k : ℕ). k + 1) (length-take-le j m (omega arith))) in

@@ -1,4 +1,4 @@
-// The calls on the record that a C program holds, track by track in the record itself: each track is read, moved and stored again, and no table is converted. So far the prediction; the laws of a batch's three loops stand in proofs/.
+// The calls on the record that a C program holds, track by track in the record itself: each track is read, moved and stored again, and no table is converted.
 ghost use mathlib.Core.Path.{_≡_};
 ghost use mathlib.Core.Bool.{cond};
 ghost use Prim.Native.Nat.{min};
@@ -17,6 +17,8 @@ use types::MAX_CANDIDATES;
 use types::MAX_SEQUENCES;
 use types::MAX_TRACKS;
 use types::refusal::Refusal;
+
+pub mod batch;
 
 // The number of a call's answer, and the record after it; where the number is not 0 the record counts for nothing.
 pub struct Ran {
