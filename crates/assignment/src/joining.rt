@@ -1,4 +1,5 @@
 // The joined groups of rows and columns: each row is joined with the columns that it may pair with, and a group is named by the last of its rows.
+// Seen by this crate alone: what its functions ask is met by `named_groups`, and that by `pair_columns`, which refuses tables of other sizes first.
 ghost use mathlib.Core.Path.{_≡_};
 ghost use Prim.Native.Nat.{_+_, _*_, _≤_, _<_};
 ghost use lib.ListN.{length, replicate};

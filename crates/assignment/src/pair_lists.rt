@@ -1,4 +1,5 @@
 // Pairs and unmatched lists, ascending, from the row that takes each column; 64 for none.
+// Seen by this crate alone: `linear_assignment` calls it with counts that passed its checks and arrays that it has just made.
 ghost use mathlib.Core.Path.{_≡_};
 ghost use Prim.Native.Nat.{_≤_, _<_};
 ghost use lib.ListN.{length, replicate};

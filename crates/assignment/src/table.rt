@@ -45,7 +45,7 @@ pub fn count_named(names: &[usize; 64], n: usize, g: usize) -> usize
     c
 }
 
-// The costs of one row in the columns of group g, laid from `from` on, and where they end; the row begins at `at`.
+// A leaf of the gathering below, which stays within its arrays. The costs of one row in the columns of group g, laid from `from` on, and where they end; the row begins at `at`.
 pub fn gather_row(
     costs: &[f64],
     at: usize,
@@ -96,7 +96,7 @@ pub fn gather_in(
     r
 }
 
-// The same into an array for the largest table.
+// The same into an array for the largest table. A leaf: the stages of a cascade lend arrays of their own and counts of at most 64.
 pub fn gather(
     costs: &[f64],
     rows: usize,

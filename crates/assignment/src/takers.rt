@@ -1,4 +1,5 @@
 // The row that takes each column, group after group.
+// Seen by this crate alone: `pair_columns` refuses tables of other sizes before it comes here.
 ghost use mathlib.Core.Path.{_≡_};
 ghost use Prim.Native.Nat.{_+_, _*_, _≤_, _<_};
 ghost use lib.Dec.{T};

@@ -1,4 +1,5 @@
 // Disjoint sets of up to 128 items, by parents and ranks: path halving, union by rank.
+// Seen by this crate alone: `joining` begins with every item alone, and keeps the ranks rising.
 ghost use mathlib.Core.Path.{_≡_};
 ghost use Prim.Native.Nat.{_<_};
 ghost use Rattle.assignment.specs.Forest.{Found, Ranked, United};

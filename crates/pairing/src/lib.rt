@@ -143,7 +143,7 @@ fn seen_within(last: Observation, now: i64, window: i64) -> Recency
     }
 }
 
-// Which of the first n rows' tracks are recent, into the front of `flags`. The first age that overflows decides.
+// A leaf, as above. Which of the first n rows' tracks are recent, into the front of `flags`. The first age that overflows decides.
 pub fn mark_recent(
     rows: [Row; MAX_TRACKS],
     n: usize,

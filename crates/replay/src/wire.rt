@@ -1,4 +1,5 @@
 // Lines of a letter and four numbers.
+// Seen by this program alone, which reads at the places of its own format.
 ghost use Prim.Native.Nat.{_<_, _≤_};
 
 // The value of a hexadecimal digit; 0 for any other byte.

@@ -1,4 +1,5 @@
 // The table: rows of costs in brackets, stored row after row.
+// Seen by this crate alone: `read_request` lends an array that it has just made.
 ghost use mathlib.Core.Path.{_≡_};
 ghost use mathlib.Core.Bool.{true};
 ghost use Prim.Native.Nat.{_≤_};

@@ -1,4 +1,5 @@
 // Words: a number, or an entry of the table.
+// Seen by this crate alone: the reader never goes past the end of the line that it is lent.
 ghost use mathlib.Core.Path.{_≡_};
 ghost use Prim.Native.Nat.{_≤_};
 ghost use lib.ListN.{length, drop};

@@ -41,7 +41,7 @@ pub fn class_at(labels: &[u32; 64], labelled: &[bool; 64], j: usize) -> Class
     }
 }
 
-// The first m detections, each into its place of the four arrays. What stands behind them is open: nobody reads it.
+// A leaf, as above. The first m detections, each into its place of the four arrays. What stands behind them is open: nobody reads it.
 pub fn lay_detections(
     observations: [Detection; MAX_OBSERVATIONS],
     m: usize,
@@ -92,7 +92,7 @@ fn is_same_noise(a: [f64; 9], b: [f64; 9]) -> bool
     true
 }
 
-// For each of the first m detections the first of its run, whose covariance is the same. How long the runs are is open, as it costs time alone.
+// A leaf, as above. For each of the first m detections the first of its run, whose covariance is the same. How long the runs are is open, as it costs time alone.
 pub fn find_kin(noises: &[[f64; 9]; 64], m: usize, kin: &mut [usize; 64])
     requires { ⌜ (m ≤ 64) × (length (now kin) ≡ 64) ⌝ }
     ensures { λ _. ⌜ Kin (now (noises .entry)) m (now (kin .exit)) ⌝ }
