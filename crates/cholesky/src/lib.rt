@@ -1,25 +1,27 @@
 // The Cholesky factor of a matrix of two rows and of three, and the root of a pivot. Each answer is equal bit for bit to the definition of any size in specs/.
+#![tactic(auto)]
+
 ghost use Rattle.std.specs.Prelude.{◌≡◌, List, [], ◌∷◌};
 ghost use Rattle.matrix.specs.Matrix.{nought};
 ghost use Rattle.cholesky.specs.Cholesky.{pivot_root, root_in, columns_from, cholesky};
 ghost use Rattle.cholesky.specs.Factor.{reply_of_pivot, reply_of_factor2, reply_of_factor3};
 
 // The root of a pivot, where it is greater than 0.
-#[derive(Drop)]
+#[derive(Clone, Copy)]
 pub enum Pivot {
     Root(f64),
     Fails,
 }
 
 // A lower triangle of two rows, and of three.
-#[derive(Drop)]
+#[derive(Clone, Copy)]
 pub struct Lower2 {
     pub l00: f64,
     pub l10: f64,
     pub l11: f64,
 }
 
-#[derive(Drop)]
+#[derive(Clone, Copy)]
 pub struct Lower3 {
     pub l00: f64,
     pub l10: f64,
@@ -30,13 +32,13 @@ pub struct Lower3 {
 }
 
 // What `cholesky2` answers, and `cholesky3`.
-#[derive(Drop)]
+#[derive(Clone, Copy)]
 pub enum Factor2 {
     Lower(Lower2),
     Fails,
 }
 
-#[derive(Drop)]
+#[derive(Clone, Copy)]
 pub enum Factor3 {
     Lower(Lower3),
     Fails,

@@ -1,4 +1,6 @@
 // What a 6 by 6 matrix a makes of a covariance p, (a p) times the transpose of a, by value: each entry is summed from its first term to its last.
+#![tactic(auto)]
+
 ghost use Rattle.std.specs.Prelude.{◌≡◌, ◌<◌};
 ghost use Rattle.std.specs.Float.{binary64};
 ghost use Rattle.std.specs.Float.Ieee.{mul};

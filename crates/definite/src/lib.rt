@@ -1,4 +1,6 @@
 // Whether a matrix has a Cholesky factor, that is, counts as positive definite. The factor itself is not kept.
+#![tactic(auto)]
+
 ghost use Rattle.std.specs.Prelude.{◌≡◌, List, [], ◌∷◌, ◌<◌};
 ghost use Rattle.cholesky.specs.Cholesky.{remainder, column_entry, column_by, columns_from};
 ghost use Rattle.definite.specs.Definite.{whether_given, factorable, reply_of_found};

@@ -1,4 +1,6 @@
 // What a sensor reports of one object, and when a report is refused.
+#![tactic(auto)]
+
 ghost use Rattle.std.specs.Prelude.{◌≡◌};
 ghost use Rattle.math.specs.Linalg.{reply_of_validity};
 ghost use Rattle.detections.specs.Detection.{finite_velocity, detection_reply};
@@ -7,28 +9,28 @@ pub mod births;
 pub mod pairs;
 
 // A velocity along x and y, where the sensor measures one.
-#[derive(Drop)]
+#[derive(Clone, Copy)]
 pub enum Velocity {
     Unmeasured,
     Measured(f64, f64),
 }
 
 // What kind of object it is, where that is known.
-#[derive(Drop)]
+#[derive(Clone, Copy)]
 pub enum Class {
     Unknown,
     Label(u32),
 }
 
 // How sure the detector is, where it says so.
-#[derive(Drop)]
+#[derive(Clone, Copy)]
 pub enum Score {
     Unscored,
     Scored(f64),
 }
 
 // A measured position and its covariance, row after row, with what else came with it.
-#[derive(Drop)]
+#[derive(Clone, Copy)]
 pub struct Detection {
     pub position: [f64; 3],
     pub covariance: [f64; 9],

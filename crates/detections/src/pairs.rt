@@ -7,14 +7,14 @@ ghost use Rattle.detections.specs.Pairs.{compatible, penalized, priced, gated, m
 use super::{Class, Detection};
 
 // What is believed of a track's class, from elsewhere: a label, and the confidence in it.
-#[derive(Drop)]
+#[derive(Clone, Copy)]
 pub enum ClassPrior {
     NoPrior,
     Prior(u32, f64),
 }
 
 // What of a track its pairs depend on.
-#[derive(Drop)]
+#[derive(Clone, Copy)]
 pub struct Target {
     pub expected: filter::Expected,
     pub class_label: Class,
@@ -22,14 +22,14 @@ pub struct Target {
 }
 
 // What of the tracker's settings a pair depends on.
-#[derive(Drop)]
+#[derive(Clone, Copy)]
 pub struct PairConfig {
     pub gate_squared_mahalanobis: f64,
     pub class_prior_penalty: f64,
 }
 
 // The rules that forbid a pair, in the order in which they are asked.
-#[derive(Drop)]
+#[derive(Clone, Copy)]
 pub enum Rule {
     Classes,
     Gate,
@@ -37,7 +37,7 @@ pub enum Rule {
 }
 
 // What the rules say of a pair; or why its distance is refused.
-#[derive(Drop)]
+#[derive(Clone, Copy)]
 pub enum Verdict {
     Allowed(f64),
     Forbidden(Rule),

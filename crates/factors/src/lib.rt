@@ -1,9 +1,11 @@
 // The Cholesky factor of one matrix beside the test of another. The two do not wait for each other, so the roots of the one are worked out while the other's are on their way.
+#![tactic(auto)]
+
 ghost use Rattle.std.specs.Prelude.{◌≡◌};
 ghost use Rattle.factors.specs.Factors.{Answers};
 
 // The factor of the one, and whether the other has one.
-#[derive(Drop)]
+#[derive(Clone, Copy)]
 pub struct FactorAndTest {
     pub factor: cholesky::Factor3,
     pub definite: bool,

@@ -1,4 +1,6 @@
 // The Kalman filter of a track. Each call gives the filter as it is after the call; a refused one gives it back as it was.
+#![tactic(auto)]
+
 ghost use Rattle.std.specs.Prelude.{◌≡◌};
 ghost use Rattle.matrix.specs.Matrix.{congruence};
 ghost use Rattle.matrix.specs.Flat.{rows_of};
@@ -12,28 +14,28 @@ ghost use Rattle.filter.specs.Filter.{filter_with, estimate_of, stored, created,
 
 // A state of position and velocity, and its covariance, row after row.
 #[repr(C)]
-#[derive(Drop)]
+#[derive(Clone, Copy)]
 pub struct KalmanFilter {
     pub state: [f64; 6],
     pub covariance: [f64; 36],
 }
 
 // Whether a call was carried out.
-#[derive(Drop)]
+#[derive(Clone, Copy)]
 pub enum Outcome {
     Done,
     Refused(math::linalg::Refusal),
 }
 
 // What a call answers, and the filter after it.
-#[derive(Drop)]
+#[derive(Clone, Copy)]
 pub struct Step {
     pub outcome: Outcome,
     pub filter: KalmanFilter,
 }
 
 // Where a filter expects a position to be measured, without the measurement's own covariance.
-#[derive(Drop)]
+#[derive(Clone, Copy)]
 pub struct Expected {
     pub position: [f64; 3],
     pub covariance: [f64; 9],

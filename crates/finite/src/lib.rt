@@ -1,5 +1,7 @@
 // Whether vectors and small matrices hold no NaN and no infinity. Each answer is equal to the definition of any size in specs/.
 // A sum is finite only where each of its terms is, and one test of a sum is quicker than nine.
+#![tactic(auto)]
+
 ghost use Rattle.std.specs.Prelude.{◌≡◌, ◌<◌};
 ghost use Rattle.matrix.specs.Matrix.{entry, sum_of, total};
 ghost use Rattle.finite.specs.Finite.{finite_vector, finite_matrix};

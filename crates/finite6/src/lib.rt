@@ -1,5 +1,7 @@
 // Whether matrices of six rows hold no NaN and no infinity, by the definition of any size in `finite`.
 // The sum of all entries is asked first: where it is finite each entry is. It is made column by column, so that the compiler adds two columns at a time.
+#![tactic(auto)]
+
 ghost use Rattle.std.specs.Prelude.{◌≡◌, ◌<◌};
 ghost use Rattle.matrix.specs.Matrix.{entry, sum_of, total};
 ghost use Rattle.finite.specs.Finite.{finite_matrix};

@@ -1,4 +1,6 @@
 // A matrix as rows from one flat array, and back. Every number is equal bit for bit to the definition of any size in matrix/specs/Flat.antt.
+#![tactic(auto)]
+
 ghost use Rattle.std.specs.Prelude.{◌≡◌, ◌<◌};
 ghost use Rattle.matrix.specs.Flat.{row_of, rows_of, flat_of};
 

@@ -1,4 +1,6 @@
 // The check of a covariance that is a variance times the identity: it needs no root.
+#![tactic(auto)]
+
 ghost use Rattle.std.specs.Prelude.{◌≡◌};
 ghost use Rattle.models.specs.Models.{isotropic};
 ghost use Rattle.math.specs.Linalg.{validated, reply_of_validity};

@@ -1,13 +1,12 @@
 -- What stands at each place after the walk back: a column on the path has the row of the column before it, every other its own.
 use mathlib.Core.Path.{◌≡◌, refl, sym, ap, ◌∙◌, subst}
 use mathlib.Core.Logic.{◌⊎◌, inl, inr}
-use mathlib.Core.Bool.{Bool, true, false, cond, true≢false}
+use mathlib.Core.Bool.{Bool}
 use mathlib.Core.List.{List}
-use Prim.Native.Nat.{ℕ, zero, suc, ◌+◌, ◌≤◌, ◌<◌}
+use Prim.Native.Nat.{ℕ, suc, ◌≤◌, ◌<◌}
 use native.Mathlib.Decide.{ℕ_discrete}
 use native.Mathlib.Omega.{arith}
-use borrow.Author.Tests.{eq-eqb, ne_eqb, eqb-true, eqb-false}
-use lib.Dec.{eqb}
+use borrow.Author.Tests.{eq-eqb, ne_eqb}
 use lib.ListN.{get_or, set, length, length-set}
 use lib.Seq.{get_or-set_same, get_or-set_other}
 use Rattle.kuhn_munkres.specs.Ops.{Ops}
@@ -27,7 +26,7 @@ module _ {N : Type 0} (O : Ops N) (way : List ℕ) (time : ℕ → ℕ) (L : ℕ
   time_le : {k j i : ℕ} → Down k j → On way j i → time i ≤ time j
   time_le d here = omega arith
   time_le (last z h e) (there g o) = absurd (g e)
-  time_le (more z h g t d) (there g' o) = let r = time_le d o in omega arith
+  time_le (more {k = k} z h g t d) (there g' o) = let r = time_le {k = k} d o in omega arith
 
   -- the next one after a column of the path is never a column that is above it
   next_not : {k j i : ℕ} (c : ℕ) → 0 < c → Down k j → On way j i → time j < time c → get_or way i 0 ≡ c → ⊥
@@ -80,7 +79,7 @@ module _ {N : Type 0} (O : Ops N) (way : List ℕ) (time : ℕ → ℕ) (L : ℕ
   same_next (more z h g t d) here (there g' o) e = absurd (not_head (pos _ g) d o (sym e))
   same_next (last z h e') (there g o) b e = absurd (g e')
   same_next (more z h g t d) (there g' o) here e = absurd (not_head (pos _ g) d o e)
-  same_next (more z h g t d) (there g' o) (there g'' q) e = same_next d o q e
+  same_next (more {k = k} z h g t d) (there g' o) (there g'' q) e = same_next {k = k} d o q e
 
   -- what a column of the path leads to is on the path, or 0
   pub next_on : {k j i : ℕ} → Down k j → On way j i → (get_or way i 0 ≡ 0) ⊎ On way j (get_or way i 0)

@@ -4,7 +4,7 @@ use mathlib.Core.List.{List, [], ◌∷◌}
 use mathlib.Core.Bool.{true, false}
 use Prim.Native.Nat.{ℕ}
 use lib.IntN.{pos}
-use lib.Ieee.{Float, nan, inf, fin, of_int, of_bits, of_fields, binary64, round, add, sub, mul, lt, size, units, odd, span, climb, sum, neg}
+use lib.Ieee.{Float, nan, inf, of_int, of_bits, of_fields, binary64, round, add, sub, mul, lt, size, units, odd, span, climb, sum, neg}
 use lib.Count.{count_trailing_zeros}
 use Rattle.number.specs.Reply.{Reply, refused, given}
 use Rattle.kuhn_munkres.specs.Steps.{relax, scan, shift_at, shift, mark, look, go_on, step, search, back, start, settle, fresh, enter, leave, rows}

@@ -43,7 +43,7 @@ largest_left (false ∷ k) m (x ∷ row) h = largest_left k m row h.1 ∙ ap (λ
 largest_of_left : (k : List Bool) (m : Float) (rows : List (List Float)) → Every (Struck NoCost k) rows → largest_of m (map (left_by k) rows) ≡ largest_of m rows
 unfolding Every largest_of
 largest_of_left k m [] h = refl
-largest_of_left k m (r ∷ rows) h = largest_of_left k _ rows h.1 ∙ ap (λ (x : Float). largest_of x rows) (largest_left k m r h.0)
+largest_of_left k m (r ∷ rows) h = largest_of_left k (largest m (left_by k r)) rows h.1 ∙ ap (λ (x : Float). largest_of x rows) (largest_left k m r h.0)
 
 -- ---- the groups
 hits_left : (k : List Bool) (row : List Float) (cols : List (Option ℕ)) → Struck NoCost k row → Struck Absent k cols → hits finite (left_by k row) (left_by k cols) ≡ hits finite row cols

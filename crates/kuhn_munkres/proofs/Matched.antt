@@ -1,5 +1,5 @@
 -- The run gives no row to two columns, whatever the numbers: it asks only that the top is not finite, and that a finite step leaves it where it is.
-use mathlib.Core.Path.{◌≡◌, refl, sym, ap, ap₂, ◌∙◌, subst}
+use mathlib.Core.Path.{◌≡◌, refl, sym, ap, ◌∙◌, subst}
 use mathlib.Core.Logic.{◌⊎◌, inl, inr}
 use mathlib.Core.Bool.{Bool, true, false, cond, true≢false}
 use mathlib.Core.List.{List}
@@ -17,7 +17,7 @@ use Rattle.kuhn_munkres.proofs.Marks.{all_alike, mark_set, mark_cases, mark_more
 use Rattle.kuhn_munkres.proofs.Ranges.{look_sane, step_sane, start_sane, settle_sane, fresh_sane, back_length}
 use Rattle.kuhn_munkres.proofs.Places.{Looked, scan_kept, scan_ahead, scan_used, scan_looked, shift_kept, shift_minv, cur, falls, best}
 use Rattle.kuhn_munkres.proofs.Back.{On, here, there, Down, last, more, back_at, back_off, back_last, back_more, same_next, next_on, on?}
-use Rattle.kuhn_munkres.proofs.Kept.{AllFound, of_found, all_map, search_p, look_used, turn_used, turn_way, turn_p, turn_j0}
+use Rattle.kuhn_munkres.proofs.Kept.{AllFound, all_map, search_p, look_used, turn_used, turn_way, turn_p, turn_j0}
 
 module _ {N : Type 0} (O : Ops N) where
   -- where the scan's step comes from, with no law of order
@@ -288,7 +288,7 @@ module _ {N : Type 0} (O : Ops N) where
       more_fuel p zero (last z h e) l = absurd (omega (arith, l))
       more_fuel {j = j} p (suc m) (last z h e) l = back_last O s.way S.time (n + 1) m p j e ∙ sym (back_last O s.way S.time (n + 1) 0 p j e)
       more_fuel p zero (more z h g t d) l = absurd (omega (arith, l))
-      more_fuel {j = j} p (suc m) (more {k = k'} z h g t d) l = back_more O s.way S.time (n + 1) m p j g ∙ more_fuel (set p j (get_or p (get_or s.way j 0) 0)) m d (omega arith) ∙ sym (back_more O s.way S.time (n + 1) k' p j g)
+      more_fuel {j = j} p (suc m) (more {k = k'} z h g t d) l = back_more O s.way S.time (n + 1) m p j g ∙ more_fuel {k = k'} (set p j (get_or p (get_or s.way j 0) 0)) m d (omega arith) ∙ sym (back_more O s.way S.time (n + 1) k' p j g)
 
       -- a column on the path is used, or the one reached; what it leads to is used
       on_used : {k j i : ℕ} → (get_or s.used j false ≡ true) ⊎ (j ≡ s.j0) → Down O s.way S.time (n + 1) k j → On s.way j i → (0 < i) × (i ≤ n) × (get_or s.used (W i) false ≡ true)
@@ -301,7 +301,7 @@ module _ {N : Type 0} (O : Ops N) where
       on_marked : {k j i : ℕ} → (get_or s.used j false ≡ true) ⊎ (j ≡ s.j0) → Down O s.way S.time (n + 1) k j → On s.way j i → (get_or s.used i false ≡ true) ⊎ (i ≡ s.j0)
       on_marked o d here = o
       on_marked o (last z h e) (there g w) = absurd (g e)
-      on_marked o (more z h g t d) (there g' w) = on_marked (inl (S.tree _ z (omega arith) o).0) d w
+      on_marked o (more {k = k} z h g t d) (there g' w) = on_marked {k = k} (inl (S.tree _ z (omega arith) o).0) d w
 
       module _ (few : bound ≤ n + 1) (long : n < length s.p) where
         abbrev P' : ℕ → ℕ
@@ -450,6 +450,10 @@ module _ {N : Type 0} (O : Ops N) where
             one = settle_one (n + 1) y r le long;
           }
 
+      entered : enter O a n (k + 1) (found s) ≡ search O a n (n + 1) b
+      unfolding enter
+      entered = refl
+
       pub row_matched : AllFound O (Matched (suc k)) (leave O n (enter O a n (k + 1) (found s)))
       row_matched = go (search O a n (n + 1) b) (both (Reached (0 + (n + 1))) (λ y. y.p ≡ b.p) (search O a n (n + 1) b) (search_shape (n + 1) 0 b start_shape start_row) (search_p O a n (n + 1) b))
         where
@@ -462,7 +466,7 @@ module _ {N : Type 0} (O : Ops N) where
           out spent h = unfold leave AllFound in tt
 
           go : (x : Search N) → AllFound O (λ y. Reached (0 + (n + 1)) y × (y.p ≡ b.p)) (search O a n (n + 1) b) → AllFound O (Matched (suc k)) (leave O n (enter O a n (k + 1) (found s)))
-          go x h = unfold enter in out (search O a n (n + 1) (start O (k + 1) s)) h
+          go x h = subst (λ (z : Search N). AllFound O (Matched (suc k)) (leave O n z)) (sym entered) (out (search O a n (n + 1) (start O (k + 1) s)) h)
 
     fresh_matched : n < size → Matched 0 (fresh O)
     fresh_matched fits = record {

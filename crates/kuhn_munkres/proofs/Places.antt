@@ -1,17 +1,16 @@
 -- What stands at each place after a scan and after a step by delta, over any numbers.
-use mathlib.Core.Path.{◌≡◌, refl, sym, ap, ◌∙◌, subst}
+use mathlib.Core.Path.{◌≡◌, refl, sym, ap, ◌∙◌}
 use mathlib.Core.Logic.{◌⊎◌, inl, inr}
 use mathlib.Core.Bool.{Bool, true, false, cond, true≢false}
 use mathlib.Core.List.{List}
 use Prim.Native.Nat.{ℕ, zero, suc, ◌+◌, ◌≤◌, ◌<◌}
-use native.Mathlib.Nat.{eq-or-lt_of_le}
 use native.Mathlib.Decide.{ℕ_discrete}
 use native.Mathlib.Omega.{arith}
 use lib.ListN.{get_or, set, length, length-set}
 use lib.Seq.{get_or-set_same, get_or-set_other}
 use Rattle.kuhn_munkres.specs.Ops.{Ops}
 use Rattle.kuhn_munkres.specs.Steps.{State, relax, scan, shift_at, shift}
-use Rattle.kuhn_munkres.proofs.Ranges.{cond_all, shift_p}
+use Rattle.kuhn_munkres.proofs.Ranges.{cond_all}
 
 -- a list after a store that a test decides
 module _ {A : Type 0} (b : Bool) (l : List A) (c : ℕ) (x d : A) where

@@ -2,7 +2,7 @@
 use mathlib.Core.Path.{◌≡◌, refl, sym, ap, ap₂, ◌∙◌, subst}
 use mathlib.Core.Bool.{Bool, true, false, cond}
 use mathlib.Core.List.{List, [], ◌∷◌}
-use Prim.Native.Nat.{ℕ, zero, suc, ◌+◌, ◌≤◌, ◌<◌, zero-le}
+use Prim.Native.Nat.{ℕ, zero, suc, ◌+◌, ◌≤◌, zero-le}
 use native.Mathlib.Omega.{arith}
 use lib.Dec.{eqb, lit<}
 use lib.ListN.{get_or, set, length, length-set}
@@ -59,7 +59,7 @@ module _ {N : Type 0} (O : Ops N) where
 
   pub look_sane : (n : ℕ) (a : ℕ → ℕ → N) (s : State N) → Sane n s → Sane n (look O a n s)
   unfolding look
-  look_sane n a s q = scan_sane n _ _ (mark O s) n (omega arith) (mark_sane n s q)
+  look_sane n a s q = scan_sane n (a (get_or s.p s.j0 0)) (get_or s.u (get_or s.p s.j0 0) O.out) (mark O s) n (omega arith) (mark_sane n s q)
 
   pub shift_sane : (n : ℕ) (s : State N) (k : ℕ) → Sane n s → Sane n (shift O s k)
   unfolding shift shift_at

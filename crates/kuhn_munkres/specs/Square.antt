@@ -1,6 +1,6 @@
 -- The padded square of one group, as `solve_dense` makes it: each row has a dummy column that costs the row cost, each column a dummy row that costs the
 -- column cost, dummies pair with each other at 0, and a forbidden pair costs the sentinel. Its entries are worked out from the group's own table.
-use Rattle.std.specs.Prelude.{Bool, true, false, cond, List, ℕ, ◌+◌, ◌-◌, ◌*◌, get_or, eqb, leb}
+use Rattle.std.specs.Prelude.{cond, List, ℕ, ◌+◌, ◌-◌, ◌*◌, get_or, eqb, leb}
 use Rattle.kuhn_munkres.specs.Ops.{Ops}
 
 -- a group's own table, row after row, with what it is padded with

@@ -1,5 +1,5 @@
 -- The steps of `hungarian_square`, over any numbers. Rows and columns count from 1; place 0 of p is the row that is being put in.
-use Rattle.std.specs.Prelude.{Bool, true, false, List, [], ◌∷◌, set, replicate, eqb}
+use Rattle.std.specs.Prelude.{Bool, true, false, List, set, replicate, eqb}
 use Rattle.std.proofs.Math.Bool.{cond}
 use Prim.Native.Nat.{ℕ, zero, suc, ◌+◌}
 use Rattle.std.proofs.Math.ListN.{get_or}

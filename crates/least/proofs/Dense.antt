@@ -1,29 +1,28 @@
 -- One group's own table: its padded square has whole entries, and the takers read off the square's rows are those of least weight.
-use mathlib.Core.Path.{◌≡◌, refl, sym, ap, ap₂, ◌∙◌, subst}
-use mathlib.Core.Bool.{Bool, true, false, cond, true≢false}
+use mathlib.Core.Path.{◌≡◌, refl, sym, ap, ap₂, ◌∙◌}
+use mathlib.Core.Bool.{Bool, true, false, cond}
 use mathlib.Core.List.{List, [], ◌∷◌, ◌++◌, map}
-use mathlib.Core.Option.{Option, none, some}
-use Prim.Native.Nat.{ℕ, zero, suc, ◌+◌, ◌-◌, ◌*◌, ◌^◌, ◌≤◌, ◌<◌}
-use native.Mathlib.Decide.{ℕ_discrete, dec_lt}
-use native.Mathlib.Nat.{mul-le-mul_right, zero-mul}
+use mathlib.Core.Option.{Option, none}
+use Prim.Native.Nat.{ℕ, zero, suc, ◌+◌, ◌-◌, ◌*◌, ◌<◌}
+use native.Mathlib.Decide.{ℕ_discrete}
+use native.Mathlib.Nat.{zero-mul}
 use native.Mathlib.Omega.{arith}
-use borrow.Author.Tests.{lt-ltb, le-ltb, ltb-true, ltb-false, eq-eqb, ne_eqb}
-use lib.Dec.{eqb, ltb, leb}
+use borrow.Author.Tests.{ltb-true, eq-eqb, ne_eqb}
+use lib.Dec.{eqb, ltb}
 use lib.ListN.{get_or, length, take, drop, length-map, length-drop, get_or-append}
 use lib.Seq.{get_or-take, get_or-drop, length-take-le, get_or-append-add}
-use lib.Ieee.{Float, nan, inf, fin}
+use lib.Ieee.{Float, nan, fin}
 use lib.Ieee.Scale.{finite}
 use lib.IntN.{pos}
-use Rattle.number.specs.Reply.{Reply, refused, given}
-use Rattle.whole.specs.Integer.{Integer, 0_z, natural, ◌≤Z◌, Within, sum}
+use Rattle.number.specs.Reply.{given}
+use Rattle.whole.specs.Integer.{Integer, 0_z, sum}
 use Rattle.whole.specs.Whole.{WholeValue}
-use Rattle.whole.specs.Takers.{weight_of, weight, Takes, LeastTakes}
-use Rattle.whole.specs.OneOne.{Inj}
+use Rattle.whole.specs.Takers.{weight_of, LeastTakes}
 use Rattle.kuhn_munkres.specs.Binary64.{float}
 use Rattle.kuhn_munkres.specs.Square.{Square, entry}
-use Rattle.kuhn_munkres.specs.Steps.{State, Search, found, stopped, spent, rows}
+use Rattle.kuhn_munkres.specs.Steps.{State, found, rows}
 use Rattle.kuhn_munkres.specs.Assignment.{in_one, taker_of, takers_in, solved, square_of}
-use Rattle.kuhn_munkres.proofs.Kept.{AllFound, of_found, rows_long}
+use Rattle.kuhn_munkres.proofs.Kept.{of_found, rows_long}
 use Rattle.kuhn_munkres.proofs.Labels.{map_at}
 use Rattle.least.proofs.Padding.{padded, taker}
 

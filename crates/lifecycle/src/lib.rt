@@ -1,10 +1,12 @@
 // The life of a track, by elapsed time and distinct observation times alone, and the sensors that contributed to it.
+#![tactic(auto)]
+
 ghost use Rattle.std.specs.Prelude.{◌≡◌, max};
 ghost use Rattle.lifecycle.specs.Lifecycle.{new_of, with_state, counted_of, matured, observed, registered_of, credited_of, reference_of, settled, verdict_of, aged_of, advanced_of};
 
 pub mod sensors;
 
-#[derive(Drop)]
+#[derive(Clone, Copy)]
 pub enum TrackLifecycleState {
     Tentative,
     Confirmed,
@@ -13,13 +15,13 @@ pub enum TrackLifecycleState {
 }
 
 // A time that may not have come yet.
-#[derive(Drop)]
+#[derive(Clone, Copy)]
 pub enum Observation {
     Never,
     At(i64),
 }
 
-#[derive(Drop)]
+#[derive(Clone, Copy)]
 pub struct TrackLifecycle {
     pub state: TrackLifecycleState,
     pub created_at: i64,
@@ -30,7 +32,7 @@ pub struct TrackLifecycle {
 
 // What of the tracker's settings a life depends on.
 #[repr(C)]
-#[derive(Drop)]
+#[derive(Clone, Copy)]
 pub struct LifecycleConfig {
     pub confirm_min_observation_times: u32,
     pub tentative_timeout_ns: i64,
@@ -39,20 +41,20 @@ pub struct LifecycleConfig {
 }
 
 // What becomes of a track when time moves on.
-#[derive(Drop)]
+#[derive(Clone, Copy)]
 pub enum Continued {
     Kept(TrackLifecycle),
     Dropped,
 }
 
-#[derive(Drop)]
+#[derive(Clone, Copy)]
 pub enum Verdict {
     Kept,
     Dropped,
 }
 
 // The same with the record as it is left, dropped or not.
-#[derive(Drop)]
+#[derive(Clone, Copy)]
 pub struct AgedLifecycle {
     pub lifecycle: TrackLifecycle,
     pub verdict: Verdict,

@@ -5,7 +5,7 @@ ghost use Rattle.lists.specs.Lay.{lay};
 ghost use Rattle.lifecycle.specs.Sensors.{is, bound_of, sensors_of, over, recorded_of};
 
 #[repr(C)]
-#[derive(Drop)]
+#[derive(Clone, Copy)]
 pub struct Sensors {
     pub ids: [u32; 16],
     pub count: usize,

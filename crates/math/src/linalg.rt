@@ -6,7 +6,7 @@ ghost use Rattle.definite.specs.Definite.{reply_of_found};
 ghost use Rattle.math.specs.Linalg.{entries_checked, entries_reply, validated, distance_reply, distance_by, squared_distance, reply_of_validity, reply_of_distance};
 
 // Why a matrix or a result is refused.
-#[derive(Drop)]
+#[derive(Clone, Copy)]
 pub enum Refusal {
     NonFiniteValue,
     NotSymmetric,
@@ -15,14 +15,14 @@ pub enum Refusal {
 }
 
 // What `validate_covariance` answers.
-#[derive(Drop)]
+#[derive(Clone, Copy)]
 pub enum Validity {
     Valid,
     Refused(Refusal),
 }
 
 // What `squared_mahalanobis` answers.
-#[derive(Drop)]
+#[derive(Clone, Copy)]
 pub enum Distance {
     Squared(f64),
     Refused(Refusal),

@@ -1,4 +1,6 @@
 // Motion at constant velocity, and what is measured of it. A state of six has x, y, z and then their velocities.
+#![tactic(auto)]
+
 ghost use Rattle.std.specs.Prelude.{◌≡◌};
 ghost use Rattle.std.specs.Float.{binary64};
 ghost use Rattle.std.specs.Float.Ieee.{mul};

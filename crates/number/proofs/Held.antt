@@ -1,6 +1,5 @@
 -- A value that a format holds is rounded to itself. So 1 leaves every factor as it is, and a zero every term that isn't one. Assumes nothing.
-use Rattle.std.proofs.Common.{◌≡◌, ℕ, zero, suc, ◌+◌, ◌-◌, ◌*◌, ◌%◌, ◌^◌, ◌<◌, ◌≤◌, Bool, true, false, cond, not, ◌&&◌, T, eqb, ltb, leb, ℤ, pos, negsuc, sym, refl, ap, ◌∙◌, subst, ap₂, add-zero, zero-lt-suc, mul_assoc, mul_comm, lt_of_mul-lt-mul_right, mul-lt-mul_of_pos_right, mul-pos, one-mul, pow-suc, zero-add, zero-mul, mul-one, mul_left_comm, arith, eqb→eq, ltb→lt, leb→le, pow_pos, pow-add, shl_lt, ltb-false, ltb-true, le-ltb, lt-ltb}
-use mathlib.Core.Bool.{beq}
+use Rattle.std.proofs.Common.{◌≡◌, ℕ, zero, suc, ◌+◌, ◌-◌, ◌*◌, ◌%◌, ◌^◌, ◌<◌, ◌≤◌, Bool, true, false, cond, ◌&&◌, T, eqb, ltb, leb, ℤ, pos, negsuc, sym, refl, ap, ◌∙◌, subst, add-zero, zero-lt-suc, mul_assoc, mul_comm, lt_of_mul-lt-mul_right, mul-lt-mul_of_pos_right, mul-pos, one-mul, pow-suc, zero-add, zero-mul, mul-one, mul_left_comm, arith, eqb→eq, ltb→lt, leb→le, pow_pos, pow-add, ltb-false, ltb-true, le-ltb, lt-ltb}
 use native.Mathlib.Nat.{pow-succ', eq_of_mul-eq-mul_right}
 use lib.Pow.{pow-lt}
 use lib.Ieee.{Float, nan, inf, fin, Format, binary32, binary64, prec, emax, low, up, down, unlike, round, sum, add, mul, fits, of_bits}

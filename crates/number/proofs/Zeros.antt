@@ -1,6 +1,6 @@
 -- Comparisons of a finite value with zero. Assumes nothing.
 use Rattle.std.proofs.Common.{◌≡◌, ℕ, zero, suc, ◌+◌, ◌*◌, ◌<◌, Bool, true, false, ◌&&◌, ℤ, sym, refl, ap, ◌∙◌, true≢false, zero-lt-suc, mul-pos, zero-mul, arith, ltb-false, ltb-true, eqb-true}
-use lib.Ieee.{Float, fin, binary64, up, down, level, lt, eq, of_bits}
+use lib.Ieee.{fin, binary64, up, down, level, lt, eq, of_bits}
 use lib.Ieee.Fits.{up_pos}
 
 pub impossible {ℓ} : {A : Type ℓ} → false ≡ true → A

@@ -3,7 +3,7 @@ ghost use Rattle.std.specs.Prelude.{◌≡◌, ◌+◌, ◌-◌, ◌^◌, min};
 ghost use Rattle.number.specs.Time.{seconds_of, duration_reply, reply_of_duration, age_of};
 
 // A difference of two times, or the overflow of one that an i64 does not hold.
-#[derive(Drop)]
+#[derive(Clone, Copy)]
 pub enum Duration {
     Nanoseconds(i64),
     Overflow,

@@ -1,4 +1,6 @@
 // What a measurement sees of a state: the products with its matrix H, which selects items. Of a plain covariance they are read off, bit for bit what the products give; else they are worked out.
+#![tactic(auto)]
+
 ghost use Rattle.std.specs.Prelude.{◌≡◌};
 ghost use Rattle.matrix.specs.Matrix.{row_times, product, times_vector, transposed, congruence};
 ghost use Rattle.models.specs.Models.{selection};

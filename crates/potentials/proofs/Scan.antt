@@ -13,7 +13,7 @@ use Rattle.whole.specs.Whole.{WholeValue, whole_of}
 use Rattle.whole.proofs.Exact.{sub_whole, lt_whole}
 use Rattle.whole.proofs.Values.{IsWhole, whole_same, is_whole, whole_finite, lt_top, top_lt}
 use Rattle.kuhn_munkres.specs.Binary64.{float}
-use Rattle.kuhn_munkres.specs.Steps.{State, scan, mark, look}
+use Rattle.kuhn_munkres.specs.Steps.{State, mark, look}
 use Rattle.kuhn_munkres.proofs.Marks.{mark_set, mark_cases, mark_more, mark_less}
 use Rattle.kuhn_munkres.proofs.Places.{cur, falls, best, Looked, Chosen, scan_used, scan_looked, scan_chosen}
 use Rattle.kuhn_munkres.proofs.Matched.{Shape}

@@ -1,10 +1,9 @@
 -- The run on a square of whole entries ends with a pairing of least total.
 use mathlib.Core.Path.{◌≡◌, refl, sym, ap, ◌∙◌, subst}
-use Prim.Native.Nat.{ℕ, zero, suc, ◌^◌, ◌≤◌, ◌<◌}
+use Prim.Native.Nat.{ℕ, zero, suc, ◌≤◌, ◌<◌}
 use native.Mathlib.Omega.{arith}
-use lib.ListN.{get_or}
 use lib.Ieee.{Float}
-use Rattle.whole.specs.Integer.{Integer, ◌+Z◌, ◌≤Z◌, ◌≈◌, Within, sum}
+use Rattle.whole.specs.Integer.{Integer, ◌+Z◌, ◌≤Z◌, ◌≈◌, Within}
 use Rattle.whole.specs.Whole.{WholeValue}
 use Rattle.whole.specs.OneOne.{Inj}
 use Rattle.whole.proofs.OneOne.{Hit, onto}

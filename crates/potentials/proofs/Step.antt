@@ -13,7 +13,7 @@ use Rattle.whole.proofs.OneOne.{Hit, hit?}
 use Rattle.whole.proofs.Exact.{add_whole, sub_whole}
 use Rattle.whole.proofs.Values.{IsWhole, whole_same, is_whole}
 use Rattle.kuhn_munkres.specs.Binary64.{float}
-use Rattle.kuhn_munkres.specs.Steps.{State, scan, mark, look, go_on, step, shift}
+use Rattle.kuhn_munkres.specs.Steps.{State, mark, look, go_on, step, shift}
 use Rattle.kuhn_munkres.proofs.Places.{scan_kept, shift_kept, shift_v, shift_minv, shift_u_hit, shift_u_miss}
 use Rattle.kuhn_munkres.proofs.Kept.{look_used, turn_used, turn_way, turn_p, turn_j0}
 use Rattle.kuhn_munkres.proofs.Matched.{Shape}

@@ -1,4 +1,6 @@
 // The filter's calls for C programs, so that they can be measured beside the Rust's. What a track holds is lent as two arrays; a refused call leaves them as they were.
+#![tactic(auto)]
+
 ghost use Rattle.std.specs.Prelude.{◌≡◌};
 ghost use Rattle.math.specs.Refusing.{number_of};
 ghost use Rattle.math.specs.Linalg.{reply_of_distance};

@@ -1,4 +1,6 @@
 // Products of small vectors, and of a matrix and a vector, by value: each entry is summed from its first term to its last.
+#![tactic(auto)]
+
 ghost use Rattle.std.specs.Prelude.{◌≡◌, ◌<◌};
 ghost use Rattle.matrix.specs.Matrix.{row, dot, times_vector};
 

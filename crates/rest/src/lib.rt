@@ -1,4 +1,6 @@
 // What a gain K leaves of a state: I − K H, for an H that selects items. Of a finite row of K it is read off, bit for bit what the products give; else it is worked out.
+#![tactic(auto)]
+
 ghost use Rattle.std.specs.Prelude.{◌≡◌};
 ghost use Rattle.matrix.specs.Matrix.{row_times, product, minus, identity};
 ghost use Rattle.models.specs.Models.{selection};

@@ -15,7 +15,7 @@ use denote.Array.{Array, each}
 use Rattle.matrix.specs.Matrix.{Vector, Matrix, item, row, entry}
 
 module _ (R : RattleType) (P : R.Denot → Type 0) (says : (x : R.Denot) (vs : List Val) → Is R x vs → P x) (d : R.Denot) where
-  each_says : (xs : List R.Denot) (us : List Val) → shadow (each R.Denot R.own xs us) → (k : ℕ) → k < length xs → P (get_or xs k d)
+  each_says : (xs : List R.Denot) (us : List Val) → shadow (each R.Denot R.own_val xs us) → (k : ℕ) → k < length xs → P (get_or xs k d)
   each_says [] us s k h = absurd (omega (arith, h))
   each_says (x ∷ xs) [] s k h = absurd s
   each_says (x ∷ xs) (u ∷ us) s zero h = says x (u ∷ []) s.0

@@ -4,7 +4,7 @@ ghost use Rattle.lists.specs.Same.{same};
 ghost use Rattle.settings.specs.Frame.{too_long, same_frame};
 
 #[repr(C)]
-#[derive(Drop)]
+#[derive(Clone, Copy)]
 pub struct FrameName {
     pub bytes: [u8; 32],
     pub length: usize,

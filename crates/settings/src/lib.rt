@@ -1,4 +1,6 @@
 // The settings of the tracker: the fields, their defaults, and the check that names the first bad one.
+#![tactic(auto)]
+
 ghost use Rattle.std.specs.Prelude.{◌≡◌};
 ghost use Rattle.settings.specs.Settings.{default_settings, reply_of, settings_reply};
 
@@ -11,7 +13,7 @@ use frame::FrameName;
 use lifecycle::LifecycleConfig;
 use optional::{OptionalF64, OptionalI64, OptionalU32};
 
-#[derive(Drop)]
+#[derive(Clone, Copy)]
 pub struct Cartesian3DTrackerConfig {
     // When a track is confirmed, lost and dropped.
     pub lifecycle: LifecycleConfig,
@@ -44,7 +46,7 @@ pub struct Cartesian3DTrackerConfig {
 }
 
 // What the check answers: the settings may be used, or the number of the first bad field.
-#[derive(Drop)]
+#[derive(Clone, Copy)]
 pub enum Validation {
     Accepted,
     BadField(u32),

@@ -1,18 +1,18 @@
 // Values that may be missing.
 
-#[derive(Drop)]
+#[derive(Clone, Copy)]
 pub enum OptionalF64 {
     None,
     Some(f64),
 }
 
-#[derive(Drop)]
+#[derive(Clone, Copy)]
 pub enum OptionalI64 {
     None,
     Some(i64),
 }
 
-#[derive(Drop)]
+#[derive(Clone, Copy)]
 pub enum OptionalU32 {
     None,
     Some(u32),

@@ -1,4 +1,6 @@
 // What is solved with a Cholesky factor, and the gain. Each answer is equal bit for bit to the definition of any size in specs/.
+#![tactic(auto)]
+
 ghost use Rattle.std.specs.Prelude.{◌≡◌};
 ghost use Rattle.cholesky.specs.Factor.{columns_of2, columns_of3};
 ghost use Rattle.solving.specs.Solving.{forward, backward, solved, gain_by};

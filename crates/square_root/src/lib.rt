@@ -1,31 +1,33 @@
 // The square root, rounded once to the nearest binary64. A guess in floating point is tested, and put right, in whole numbers, so nothing rests on how good it is.
+#![tactic(auto)]
+
 ghost use Rattle.std.specs.Prelude.{◌≡◌, ◌+◌, ◌-◌, ◌*◌, ◌%◌, ◌^◌, ◌<◌, ◌≤◌, true};
 ghost use Rattle.square_root.specs.Root.{RootAnswer};
 ghost use Rattle.square_root.specs.RootSteps.{Squared, Nearest, Past, PatternOf, ValueOf, Normal, UnitsOf, weight};
 
 // What `root` answers: the root, or 01's 9.
-#[derive(Drop)]
+#[derive(Clone, Copy)]
 pub enum SquareRoot {
     Value(f64),
     Refused,
 }
 
 // q * q, as whole * 2^52 + rest.
-#[derive(Drop)]
+#[derive(Clone, Copy)]
 struct Parts {
     whole: u64,
     rest: u64,
 }
 
 // A number of 53 digits, and how often it was doubled to get there.
-#[derive(Drop)]
+#[derive(Clone, Copy)]
 struct Scaled {
     digits: u64,
     doubled: u64,
 }
 
 // digits * 2^exponent
-#[derive(Drop)]
+#[derive(Clone, Copy)]
 struct Unpacked {
     digits: u64,
     exponent: u64,

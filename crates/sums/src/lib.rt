@@ -1,4 +1,6 @@
 // Sums and differences of small vectors by value. Every number is equal bit for bit to the definition of any size in matrix/specs/Matrix.antt.
+#![tactic(auto)]
+
 ghost use Rattle.std.specs.Prelude.{◌≡◌};
 ghost use Rattle.matrix.specs.Matrix.{plus_vector, minus_vector};
 

@@ -1,4 +1,6 @@
 // The symmetric part of a sum of two small matrices by value. Every number is equal bit for bit to the definition of any size in matrix/specs/Matrix.antt.
+#![tactic(auto)]
+
 ghost use Rattle.std.specs.Prelude.{◌≡◌, ◌<◌};
 ghost use Rattle.std.specs.Float.{binary64};
 ghost use Rattle.std.specs.Float.Ieee.{add, mul};

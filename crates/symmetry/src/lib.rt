@@ -1,5 +1,7 @@
 // Whether a matrix of three rows counts as symmetric. Each answer is equal bit for bit to the definition of any size in specs/.
 // A matrix that equals its transpose is within every tolerance, so that is asked first.
+#![tactic(auto)]
+
 ghost use Rattle.std.specs.Prelude.{◌≡◌, ◌<◌};
 ghost use Rattle.symmetry.specs.Symmetry.{largest_in_row, largest, skew_row, skew, mirrored, is_symmetric};
 

@@ -1,4 +1,6 @@
 // Whether a matrix of six rows counts as symmetric, by the definition of any size in `symmetry`.
+#![tactic(auto)]
+
 ghost use Rattle.std.specs.Prelude.{◌≡◌, ◌<◌};
 ghost use Rattle.symmetry.specs.Symmetry.{largest_in_row, largest, skew_row, skew, is_symmetric};
 

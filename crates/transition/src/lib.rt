@@ -1,4 +1,6 @@
 // What the transition F over dt makes of a covariance, (F P) Fᵀ. Where the covariance is plain it is read off, bit for bit what the products give; else it is worked out.
+#![tactic(auto)]
+
 ghost use Rattle.std.specs.Prelude.{◌≡◌};
 ghost use Rattle.std.specs.Float.{binary64};
 ghost use Rattle.std.specs.Float.Ieee.{add, mul};

@@ -1,0 +1,13 @@
+use mathlib.Core.Path.{◌∙◌}
+use Rattle.matrix.specs.Matrix.{symmetrized, plus}
+use Rattle.cholesky.specs.Cholesky.{cholesky}
+use Rattle.filter.specs.Filter.{factor_from}
+use Rattle.filter.proofs.factor_from.Goals as goal
+
+pub returns : goal.returns
+unfolding factor_from
+returns c =
+    let own = c.before in
+    let noise = own.before in
+    let s = own.symmetrized_sum3.ensures ∙ (λ i. symmetrized 3 (plus 3 3 (noise.rows_3x3.ensures i) (noise.rows_3x3-2.ensures i))) in
+    c.cholesky3.ensures ∙ (λ i. cholesky 3 (s i))

@@ -1,0 +1,11 @@
+use mathlib.Core.Path.{◌∙◌, ap}
+use Rattle.matrix.specs.Matrix.{minus_vector}
+use Rattle.filter.specs.Kalman.{innovation}
+use Rattle.filter.proofs.innovation2.Goals as goal
+
+pub returns : goal.returns
+unfolding innovation
+returns c =
+    let seen = c.before in
+    let s = seen.args in
+    c.sub2.ensures ∙ ap (minus_vector 2 s.z) seen.velocity.ensures

@@ -1,0 +1,16 @@
+use mathlib.Core.Path.{sym, ap, ◌∙◌}
+use Rattle.number.specs.Reply.{and_then}
+use Rattle.cholesky.specs.Factor.{reply_of_factor3}
+use Rattle.math.specs.Linalg.{distance_by}
+use Rattle.math.proofs.linalg.distance_by_factor3.Goals as goal
+
+pub returns-in-Lower : goal.returns-in-Lower
+returns-in-Lower c =
+    let known = c in
+    let at = known.before in
+    c.distance_by3.ensures ∙ ap (λ f. and_then (reply_of_factor3 f) (λ l. distance_by 3 l at.args.u)) (sym known.in-Lower.is)
+
+pub returns-in-Fails : goal.returns-in-Fails
+returns-in-Fails c =
+    let at = c.before in
+    ap (λ f. and_then (reply_of_factor3 f) (λ l. distance_by 3 l at.args.u)) (sym c.in-Fails.is)

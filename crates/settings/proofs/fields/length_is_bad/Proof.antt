@@ -1,9 +1,0 @@
-use borrow.Author.Rules.{rules}
-use Rattle.settings.proofs.fields.length_is_bad.Statement.{statement}
-use Rattle.settings.proofs.fields.length_is_bad.Tie as tie
-
-returns_2 : tie.Need-returns-2
-returns_2 c = rw c.before.before.length.given.1 c.not-positive.ensures
-
-pub length_is_bad_spec : {M : Type 1} → statement M
-length_is_bad_spec = tie.close (tie.spec (λ c. search rules) (λ c. search rules) (λ c κs. search rules) (λ c. search rules) returns_2)

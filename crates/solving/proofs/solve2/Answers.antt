@@ -1,0 +1,6 @@
+use Rattle.solving.specs.Solving.{solved}
+use Rattle.solving.proofs.solve2.Goals as goal
+
+pub returns : goal.returns
+unfolding solved
+returns c = cc

@@ -1,0 +1,4 @@
+use Rattle.transition.proofs.can_glide.Goals as goal
+
+pub returns : goal.returns
+returns c = cc
