@@ -1,5 +1,5 @@
 -- Where no row takes two columns, each row and each column stands once in the pairs and lists, and the lists ascend.
-use mathlib.Core.Path.{◌≡◌, refl, sym, ap, ap₂, ◌∙◌, subst}
+use mathlib.Core.Path.{◌≡◌, refl, sym, ap, ◌∙◌}
 use mathlib.Core.Logic.{◌⊎◌, inl, inr}
 use mathlib.Core.Bool.{Bool, cond}
 use mathlib.Core.List.{List, [], ◌∷◌, map}
@@ -10,7 +10,7 @@ use native.Mathlib.Omega.{arith}
 use borrow.Author.Tests.{eq-eqb, ne_eqb, lt-ltb, le-ltb}
 use lib.Dec.{eqb, ltb}
 use lib.ListN.{get_or, length}
-use Rattle.kuhn_munkres.specs.Assignment.{Pair, Pairs, column_of, pair_at, free_at, pairs_from, free_rows, free_columns, pairs_of}
+use Rattle.kuhn_munkres.specs.Assignment.{column_of, pair_at, free_at, pairs_from, free_rows, free_columns, pairs_of}
 use Rattle.kuhn_munkres.proofs.Labels.{none_some, some_in}
 use Rattle.kuhn_munkres.proofs.Columns.{column_takes, column_is}
 use Rattle.assignment.specs.Listing.{row_of, column_in, times, Ascending, Once}

@@ -2,16 +2,16 @@
 use mathlib.Core.Path.{◌≡◌, refl, sym, ap, ◌∙◌, subst}
 use mathlib.Core.Logic.{◌⊎◌, inl, inr}
 use mathlib.Core.Bool.{Bool, true, false, cond, ◌&&◌, ◌||◌, true≢false}
-use mathlib.Core.List.{List, []}
+use mathlib.Core.List.{List}
 use mathlib.Core.Option.{Option, none, some}
 use Prim.Native.Nat.{ℕ, zero, suc, ◌+◌, ◌-◌, ◌*◌, ◌≤◌, ◌<◌}
 use native.Mathlib.Decide.{ℕ_discrete, dec_lt}
 use native.Mathlib.Numerals.{add-one}
-use native.Mathlib.Nat.{suc-mul, zero-mul, mul-le-mul_right}
+use native.Mathlib.Nat.{suc-mul, mul-le-mul_right}
 use native.Mathlib.Omega.{arith}
 use borrow.Author.Tests.{eq-eqb, eqb-true, lt-ltb, le-ltb}
-use lib.Dec.{eqb, ltb}
-use lib.ListN.{get_or, length, take, drop, replicate, get_or-eq_default, length-replicate}
+use lib.Dec.{eqb}
+use lib.ListN.{get_or, length, take, drop, replicate, get_or-eq_default}
 use lib.Seq.{get_or-take, get_or-drop}
 use lib.Ieee.{Float, nan}
 use lib.Ieee.Scale.{finite}
@@ -21,7 +21,7 @@ use Rattle.kuhn_munkres.specs.Assignment.{rows_of}
 use Rattle.kuhn_munkres.proofs.Rows.{row_long}
 use Rattle.kuhn_munkres.proofs.Labels.{nones_at, Named, Touching, named_all, labels_snoc, hit_in, hit_out, row_before, row_new, col_new, col_beyond, named_join}
 use Rattle.groups.proofs.Masks.{not_true}
-use Rattle.assignment.specs.Forest.{Forest, Labelled, Ranked}
+use Rattle.assignment.specs.Forest.{Forest, Labelled}
 use Rattle.assignment.specs.Labelling.{allowed_at, touched, row_label, Roomy, RowJoined, or_item, item_label, Alone, Grouped}
 use Rattle.assignment.proofs.Forests.{labels_same}
 

@@ -1,5 +1,6 @@
 pub mod Places
 pub mod Forests
+pub mod Climbing
 pub mod Unions
 pub mod RowJoins
 pub mod Items

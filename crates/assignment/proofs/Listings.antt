@@ -1,20 +1,16 @@
 -- One row or column more of the lists.
-use mathlib.Core.Path.{◌≡◌, refl, sym, ap, ap₂, ◌∙◌, subst}
-use mathlib.Core.Bool.{Bool, true, false, cond}
-use mathlib.Core.List.{List, [], ◌∷◌, ◌++◌, map, append-nil, append_assoc}
+use mathlib.Core.Path.{◌≡◌, refl, sym, ap, ap₂, ◌∙◌}
+use mathlib.Core.Bool.{Bool, cond}
+use mathlib.Core.List.{List, [], ◌∷◌, ◌++◌, map, append-nil}
 use mathlib.Core.Option.{Option, none, some}
-use Prim.Native.Nat.{ℕ, zero, suc, ◌+◌, ◌-◌, ◌≤◌, ◌<◌}
-use native.Mathlib.Decide.{dec_lt}
+use Prim.Native.Nat.{ℕ, suc, ◌+◌, ◌-◌, ◌≤◌, ◌<◌}
 use native.Mathlib.Numerals.{add-one}
 use native.Mathlib.Omega.{arith}
 use borrow.Author.Tests.{lt-ltb, le-ltb, eq-eqb, ne_eqb}
-use lib.Dec.{eqb, ltb}
-use lib.ListN.{get_or, set, length, take, drop, replicate, length-append, length-map, length-replicate}
+use lib.Dec.{eqb}
+use lib.ListN.{get_or, set, length, take, drop, replicate, length-append, length-map}
 use lib.Seq.{set-append_seam, append_snoc, drop-cons, drop-length, get_or-take, length-take-le, take-append_seam}
-use Rattle.number.specs.Reply.{Reply, refused, given}
-use Rattle.lists.specs.Masks.{zipped}
-use Rattle.kuhn_munkres.specs.Groups.{is_label}
-use Rattle.kuhn_munkres.specs.Assignment.{Pair, Pairs, column_of, pair_at, free_at, pairs_from, free_rows, free_columns, pairs_of}
+use Rattle.kuhn_munkres.specs.Assignment.{Pair, column_of, pair_at, free_at, pairs_from, free_rows, free_columns}
 use Rattle.kuhn_munkres.proofs.Labels.{map_at}
 use Rattle.assignment.specs.Labelling.{row_or}
 use Rattle.assignment.specs.Taking.{takers_of}

@@ -1,24 +1,21 @@
 -- The last row of each tree, and the names that rows and columns take from it.
-use mathlib.Core.Path.{◌≡◌, refl, sym, ap, ◌∙◌, subst}
-use mathlib.Core.Logic.{◌⊎◌, inl, inr}
-use mathlib.Core.Bool.{Bool, true, false, cond}
-use mathlib.Core.List.{List, [], map}
+use mathlib.Core.Path.{◌≡◌, refl, sym, ap, ◌∙◌}
+use mathlib.Core.Bool.{Bool, cond}
+use mathlib.Core.List.{List, map}
 use mathlib.Core.Option.{Option, none, some}
 use Prim.Native.Nat.{ℕ, zero, suc, ◌+◌, ◌-◌, ◌*◌, ◌≤◌, ◌<◌}
 use native.Mathlib.Decide.{ℕ_discrete, dec_lt}
-use native.Mathlib.Numerals.{add-one}
 use native.Mathlib.Omega.{arith}
 use borrow.Author.Tests.{lt-ltb, le-ltb}
-use lib.Dec.{ltb}
-use lib.ListN.{get_or, set, length, take, replicate, length-set, length-map, length-take, get_or-replicate}
+use lib.ListN.{get_or, set, length, take, replicate, length-set, length-map, get_or-replicate}
 use lib.Seq.{get_or-set_same, get_or-set_other, get_or-take, ext_get_or, length-take-le}
 use lib.Ieee.{Float, nan}
 use lib.Ieee.Scale.{finite}
 use Rattle.kuhn_munkres.specs.Groups.{Labels, labels}
 use Rattle.kuhn_munkres.specs.Assignment.{rows_of}
 use Rattle.kuhn_munkres.proofs.Labels.{Named, named_all, map_at}
-use Rattle.assignment.specs.Forest.{Forest, Labelled, Ranked, Found}
-use Rattle.assignment.specs.Labelling.{or_item, item_label, Grouped, LastRows, Passed, AtRoot, ReadOff, row_or, NamedBy}
+use Rattle.assignment.specs.Forest.{Labelled, Ranked, Found}
+use Rattle.assignment.specs.Labelling.{or_item, item_label, LastRows, Passed, AtRoot, ReadOff, row_or, NamedBy}
 use Rattle.assignment.proofs.Items.{item_row, item_col}
 
 pub own_upto : (par : List ℕ) (x : ℕ) → length par ≡ 128 → x < 128 → ((k : ℕ) → k < x → get_or par k 0 ≡ k) → (length (set par x x) ≡ 128) × ((k : ℕ) → k < x + 1 → get_or (set par x x) k 0 ≡ k)

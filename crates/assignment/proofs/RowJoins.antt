@@ -1,16 +1,15 @@
 -- One column more of a row that is being joined.
-use mathlib.Core.Path.{◌≡◌, refl, sym, ap, ◌∙◌, subst}
-use mathlib.Core.Bool.{Bool, true, false, cond, ◌&&◌, ◌||◌, true≢false}
+use mathlib.Core.Path.{◌≡◌, refl, sym, ap, ◌∙◌}
+use mathlib.Core.Bool.{Bool, true, false, cond, ◌&&◌, ◌||◌}
 use mathlib.Core.List.{List}
-use Prim.Native.Nat.{ℕ, zero, suc, ◌+◌, ◌≤◌, ◌<◌}
+use Prim.Native.Nat.{ℕ, ◌+◌, ◌<◌}
 use native.Mathlib.Decide.{ℕ_discrete}
 use native.Mathlib.Numerals.{add-one}
 use native.Mathlib.Omega.{arith}
 use borrow.Author.Tests.{eq-eqb, ne_eqb}
 use lib.Dec.{eqb}
-use lib.ListN.{get_or}
 use lib.Ieee.{Float}
-use Rattle.assignment.specs.Forest.{Forest, Labelled, Ranked, United, join_of}
+use Rattle.assignment.specs.Forest.{Forest, Ranked, United, join_of}
 use Rattle.assignment.specs.Labelling.{allowed_at, touched, row_label, Roomy, RowJoined}
 use Rattle.assignment.proofs.Forests.{labels_same, join_on, join_off}
 use Rattle.assignment.proofs.Unions.{more}

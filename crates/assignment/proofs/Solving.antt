@@ -1,9 +1,9 @@
 -- A group of the code is a group of the definition, and group after group.
-use mathlib.Core.Path.{◌≡◌, refl, sym, ap, ap₂, ◌∙◌, subst}
-use mathlib.Core.Bool.{Bool, true, false, cond}
-use mathlib.Core.List.{List, [], ◌∷◌, map}
-use mathlib.Core.Option.{Option, none, some}
-use Prim.Native.Nat.{ℕ, zero, suc, ◌+◌, ◌-◌, ◌*◌, ◌≤◌, ◌<◌}
+use mathlib.Core.Path.{◌≡◌, refl, sym, ap, ◌∙◌}
+use mathlib.Core.Bool.{Bool, true, false}
+use mathlib.Core.List.{List, [], map}
+use mathlib.Core.Option.{Option}
+use Prim.Native.Nat.{ℕ, zero, suc, ◌+◌, ◌*◌, ◌≤◌, ◌<◌}
 use native.Mathlib.Numerals.{add-one}
 use native.Mathlib.Nat.{mul-le-mul_left, mul-le-mul_right}
 use native.Mathlib.Omega.{arith}
@@ -20,7 +20,7 @@ use Rattle.lists.specs.First.{any}
 use Rattle.lists.specs.Masks.{left_by, spread, up_from}
 use Rattle.kuhn_munkres.specs.Groups.{Labels, labels, is_label}
 use Rattle.kuhn_munkres.specs.Assignment.{rows_of, in_one, taker_of, takers_in, solved, square_of, named, group_in, groups, same}
-use Rattle.kuhn_munkres.proofs.Kept.{AllFound, of_found, rows_long}
+use Rattle.kuhn_munkres.proofs.Kept.{of_found, rows_long}
 use Rattle.kuhn_munkres.proofs.Rows.{rows_count}
 use Rattle.hungarian.specs.Ends.{end_reply, run_reply, reply_of_run}
 use Rattle.hungarian.specs.Structs.{square_from}
@@ -31,8 +31,8 @@ use Rattle.groups.specs.Picks.{ticks}
 use Rattle.groups.specs.Solvers.{own_reply}
 use Rattle.groups.proofs.Picking.{picked_long, picked_all, ticks_le}
 use Rattle.assignment.specs.Picks.{bears, group_row, group_table, GatheredIn}
-use Rattle.assignment.specs.Taking.{takers_of, reply_if, Call, Room, Taken, GroupTaken, AllTaken}
-use Rattle.assignment.proofs.Groupings.{table_is, members_is, unborne, no_column_lem, some_column, some_row, taken_is}
+use Rattle.assignment.specs.Taking.{takers_of, Call, Room, Taken, GroupTaken, AllTaken}
+use Rattle.assignment.proofs.Groupings.{table_is, unborne, no_column_lem, some_column, some_row, taken_is}
 
 -- ---- what the run ends with
 pub record Ended (x : Search Float) (p : List ℕ) : Type 0 where

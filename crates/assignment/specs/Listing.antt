@@ -1,5 +1,5 @@
 -- The answer's arrays: each list in front, zeros after it.
-use Rattle.std.specs.Prelude.{◌≡◌, cond, List, [], ◌∷◌, ◌++◌, map, ℕ, zero, suc, ◌+◌, ◌-◌, ◌≤◌, length, take, replicate, eqb, ltb, Float}
+use Rattle.std.specs.Prelude.{◌≡◌, cond, List, [], ◌∷◌, ◌++◌, map, ℕ, suc, ◌+◌, ◌-◌, ◌≤◌, length, take, replicate, eqb, ltb, Float}
 use Rattle.std.proofs.Math.Option.{Option, none, some}
 use Rattle.number.specs.Reply.{Reply, refused, given}
 use Rattle.lists.specs.Masks.{zipped}

@@ -88,7 +88,7 @@ pub fn read_off(
 }
 
 // The row that names each row's group, and each column's; 64 for a column that is in none.
-#[derive(Drop)]
+#[derive(Clone, Copy)]
 pub struct Names {
     pub of_rows: [usize; 64],
     pub of_columns: [usize; 64],

@@ -1,4 +1,6 @@
 // The least-cost pairing of rows with columns, and who is left: joined groups, each by the steps of `hungarian_square`.
+#![tactic(auto)]
+
 mod joining;
 mod pair_lists;
 pub mod table;
@@ -13,7 +15,7 @@ ghost use Rattle.assignment.specs.Replies.{reply_of};
 
 // Whether the call is answered, or why it is declined: too many rows or columns, an unmatched cost that is not finite, a table of another size or a step that
 // is not finite.
-#[derive(Drop)]
+#[derive(Clone, Copy)]
 pub enum Outcome {
     Given,
     TooMany,
@@ -22,7 +24,7 @@ pub enum Outcome {
 }
 
 // Pairs by ascending row, and the rows and columns that are left, ascending: each list in front of its array, zeros after it.
-#[derive(Drop)]
+#[derive(Clone, Copy)]
 pub struct Assignment {
     pub pair_rows: [usize; 64],
     pub pair_columns: [usize; 64],
@@ -34,7 +36,7 @@ pub struct Assignment {
 }
 
 // The answer; where the call is declined the assignment is empty.
-#[derive(Drop)]
+#[derive(Clone, Copy)]
 pub struct Assigned {
     pub outcome: Outcome,
     pub assignment: Assignment,

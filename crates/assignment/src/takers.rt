@@ -48,7 +48,7 @@ fn take_columns(
 }
 
 // The three costs beside the table: of a forbidden pair, of a row and of a column that stay alone.
-#[derive(Drop)]
+#[derive(Clone, Copy)]
 pub struct Prices {
     pub far: f64,
     pub row: f64,

@@ -1,4 +1,6 @@
 // A batch and its report as a C program holds them.
+#![tactic(auto)]
+
 ghost use Rattle.std.specs.Prelude.{◌≡◌, map};
 ghost use Rattle.batch_records.specs.Batches.{detection_of, batch_of, association_to, report_to};
 
@@ -7,7 +9,7 @@ use settings::frame::FrameName;
 use types::batch::{BatchReport3D, ObservationAssociation, ObservationBatch3D};
 
 #[repr(C)]
-#[derive(Drop)]
+#[derive(Clone, Copy)]
 pub struct PkDetection {
     pub position: [f64; 3],
     pub covariance: [f64; 9],
@@ -20,7 +22,7 @@ pub struct PkDetection {
 }
 
 #[repr(C)]
-#[derive(Drop)]
+#[derive(Clone, Copy)]
 pub struct PkBatch {
     pub sequence: u64,
     pub timestamp: i64,
@@ -32,7 +34,7 @@ pub struct PkBatch {
 }
 
 #[repr(C)]
-#[derive(Drop)]
+#[derive(Clone, Copy)]
 pub struct PkAssociation {
     pub observation_index: usize,
     pub track_id: u64,
@@ -44,7 +46,7 @@ pub struct PkAssociation {
 }
 
 #[repr(C)]
-#[derive(Drop)]
+#[derive(Clone, Copy)]
 pub struct PkReport {
     pub code: u32,
     pub sensor_id: u32,

@@ -1,4 +1,6 @@
 // The check of a batch, before any track is looked at.
+#![tactic(auto)]
+
 ghost use Rattle.std.specs.Prelude.{◌≡◌, ◌≤◌, take};
 ghost use Rattle.types.specs.States.{time_of};
 ghost use Rattle.types.specs.Refusals.{reply_of};

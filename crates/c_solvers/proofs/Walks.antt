@@ -1,22 +1,21 @@
 -- The walk over the rows beside their pairs: each row's mate, one row more a turn. Assumes nothing.
-use mathlib.Core.Path.{◌≡◌, refl, sym, ap, ap₂, ◌∙◌, subst}
-use mathlib.Core.Bool.{Bool, true, false, cond, ◌&&◌}
+use mathlib.Core.Path.{◌≡◌, refl, sym, ap, ◌∙◌}
+use mathlib.Core.Bool.{Bool, true, false}
 use mathlib.Core.List.{List, [], ◌∷◌, ◌++◌, map}
 use mathlib.Core.Option.{Option, none, some}
 use Prim.Native.Nat.{ℕ, zero, suc, ◌+◌, ◌-◌, ◌≤◌, ◌<◌}
 use native.Mathlib.Decide.{dec_lt}
 use native.Mathlib.Numerals.{add-one}
 use native.Mathlib.Omega.{arith}
-use borrow.Author.Tests.{lt-ltb, le-ltb, eq-eqb, ne_eqb, ltb-true, eqb-true}
-use lib.Dec.{eqb, ltb}
+use borrow.Author.Tests.{lt-ltb, le-ltb, eq-eqb, ne_eqb, eqb-true}
 use lib.ListN.{get_or, set, length, drop, replicate, length-append, length-map, get_or-append, drop_of_length-le}
 use lib.Seq.{drop-cons}
 use Rattle.lists.specs.Lay.{lay}
-use Rattle.lists.proofs.Laying.{set_lay, length_lay}
+use Rattle.lists.proofs.Laying.{set_lay}
 use Rattle.kuhn_munkres.specs.Assignment.{Pair, column_of, pair_at, pairs_from}
 use Rattle.kuhn_munkres.proofs.Labels.{map_at}
 use Rattle.assignment.specs.Listing.{padded, row_of, column_in, pair_of}
-use Rattle.c_solvers.specs.Mates.{alone, mate_of, mates_of, hits, PairsHeld, MatesWritten}
+use Rattle.c_solvers.specs.Mates.{alone, mate_of, mates_of, hits, PairsHeld}
 
 -- ---- mates
 pub length_mates : (l : List Pair) (n : ℕ) → length (mates_of l n) ≡ n

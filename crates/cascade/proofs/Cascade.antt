@@ -1,12 +1,12 @@
 -- Two stages, one after the other, are the cascade. Assumes nothing.
 use mathlib.Core.Path.{◌≡◌, refl, sym, ap, ◌∙◌, subst}
-use mathlib.Core.Bool.{Bool, true, false, not, ◌||◌, ◌&&◌}
+use mathlib.Core.Bool.{Bool, true, false, not, ◌&&◌}
 use mathlib.Core.List.{List, [], ◌∷◌, map}
 use mathlib.Core.Option.{Option, none}
 use Prim.Native.Nat.{ℕ, zero, suc, ◌*◌, ◌≤◌, ◌<◌}
 use native.Mathlib.Omega.{arith}
-use borrow.Author.Tests.{leb-true, eqb-true, ltb-false, not-false}
-use lib.Dec.{eqb, leb, ltb}
+use borrow.Author.Tests.{leb-true, eqb-true}
+use lib.Dec.{eqb, leb}
 use lib.Ieee.{Float}
 use lib.Ieee.Scale.{finite}
 use lib.ListN.{length, get_or, take, drop, replicate, length-map, length-take}
@@ -17,7 +17,7 @@ use Rattle.matrix.specs.Matrix.{nought}
 use Rattle.kuhn_munkres.specs.Takers.{free, both_takers}
 use Rattle.lists.proofs.Masks.{map_map, every_left}
 use Rattle.kuhn_munkres.proofs.Takers.{free_named}
-use Rattle.kuhn_munkres.specs.Assignment.{rows_of, named, in_one, pairing, takers_reply}
+use Rattle.kuhn_munkres.specs.Assignment.{rows_of, named, in_one, takers_reply}
 use Rattle.groups.proofs.Once.{pairing_sound}
 use Rattle.number.proofs.Replies.{past_test}
 use Rattle.number.proofs.Zeros.{both}

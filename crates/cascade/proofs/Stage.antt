@@ -12,7 +12,6 @@ use lib.Dec.{eqb}
 use lib.ListN.{get_or, length, take, drop, length-map, get_or-eq_default}
 use lib.Seq.{get_or-take, get_or-drop, ext_get_or, length-take-le}
 use lib.Ieee.{Float, nan}
-use lib.Ieee.Scale.{finite}
 use Rattle.number.specs.Reply.{Reply, refused, given, and_then}
 use Rattle.lists.specs.Masks.{left_by, spread, count, up_from}
 use Rattle.matrix.specs.Matrix.{nought}

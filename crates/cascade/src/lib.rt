@@ -1,4 +1,6 @@
 // The pairing in two stages: the recent rows with all columns, then the others with the columns that are left.
+#![tactic(auto)]
+
 ghost use Rattle.std.specs.Prelude.{◌≡◌, false, ◌+◌, ◌*◌, ◌≤◌, ◌<◌, length, get_or, take, replicate};
 ghost use Rattle.number.specs.Reply.{given, and_then};
 ghost use Rattle.kuhn_munkres.specs.Assignment.{rows_of, takers_reply};

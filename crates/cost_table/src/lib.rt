@@ -1,4 +1,6 @@
 // The costs of a batch's pairs: a row for each track, row after row in one array. The factor of S is worked out again only where the detections' covariance changes.
+#![tactic(auto)]
+
 ghost use Rattle.std.specs.Prelude.{◌≡◌, true, false, ◌+◌, ◌≤◌, take};
 ghost use Rattle.number.specs.Reply.{given, and_then};
 ghost use Rattle.cholesky.specs.Factor.{reply_of_factor3};
@@ -17,7 +19,7 @@ use types::refusal::{Outcome, Refusal};
 use types::{MAX_OBSERVATIONS, MAX_TRACKS};
 
 // An entry of the table of costs, or why the pair's distance is refused.
-#[derive(Drop)]
+#[derive(Clone, Copy)]
 pub enum Entry {
     Cost(f64),
     Refused(Refusal),

@@ -1,4 +1,6 @@
 // A value that may be missing, as a flag and a value: a flag of 0 says that it is missing, any other that it is there. States and outcomes as numbers.
+#![tactic(auto)]
+
 ghost use Rattle.std.specs.Prelude.{◌≡◌};
 ghost use Rattle.flags.specs.Flags.{f64_of, i64_of, u32_of, observation_of, class_of, prior_of, sensor_of, mark_of, life_of, has_f64, the_f64, has_i64, the_i64, has_u32, the_u32, has_observation, the_observation, has_class, the_class, has_prior, the_prior, the_confidence, has_sensor, the_sensor, mark_to, life_to, velocity_of, score_of, has_track, the_track, outcome_to};
 

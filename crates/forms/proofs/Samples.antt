@@ -1,7 +1,7 @@
 -- 01's line, and words of each kind, through the definitions.
 use mathlib.Core.Path.{◌≡◌, refl}
-use mathlib.Core.Option.{Option, none, some}
-use mathlib.Core.List.{List, [], ◌∷◌}
+use mathlib.Core.Option.{none, some}
+use mathlib.Core.List.{[], ◌∷◌}
 use lib.IntN.{pos, negsuc}
 use Rattle.forms.specs.Decimal.{decimal_of, minus, natural_of, limited, value_of, plus}
 use Rattle.forms.specs.Shape.{form_of, bracketed, inside, forms_of, behind, word, past_word}

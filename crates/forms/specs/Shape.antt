@@ -1,7 +1,7 @@
 -- The shape of a line: what stands behind a form at the head of the bytes, or nothing where none stands there.
 -- 01, Line of the program `assign`: "A form is a word or brackets round forms, at most 4 deep, single blanks between forms; brackets may be empty.
 -- A word is one or more bytes other than blank, newline and brackets."
-use Rattle.std.specs.Prelude.{Bool, true, false, cond, not, ◌&&◌, List, [], ◌∷◌, ℕ, zero, suc, ◌+◌, ◌-◌, eqb, length, drop}
+use Rattle.std.specs.Prelude.{Bool, cond, not, ◌&&◌, List, [], ◌∷◌, ℕ, zero, suc, ◌+◌, ◌-◌, eqb, length, drop}
 use Rattle.std.proofs.Math.Option.{Option, none, some}
 use Rattle.number.specs.Reply.{Reply, refused, given}
 use Rattle.forms.specs.declared.Read.{Read}

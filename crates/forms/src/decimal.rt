@@ -3,14 +3,14 @@ ghost use Rattle.std.specs.Prelude.{◌≡◌};
 ghost use Rattle.forms.specs.Decimal.{value_of, limited, natural_of, natural_reply, reply_of_natural, decimal_of, decimal_reply, reply_of_decimal};
 
 // Digits' value, or that there is none in the range.
-#[derive(Drop)]
+#[derive(Clone, Copy)]
 pub enum Natural {
     Count(u32),
     NoCount,
 }
 
 // Sign and size, or that the word is no number in the range.
-#[derive(Drop)]
+#[derive(Clone, Copy)]
 pub enum Decimal {
     Plus(u32),
     Minus(u32),

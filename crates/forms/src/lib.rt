@@ -1,11 +1,13 @@
 // The shape of a line: a form reader and a list reader that call each other. Decimal numbers are in `decimal`.
+#![tactic(auto)]
+
 pub mod decimal;
 
 ghost use Rattle.std.specs.Prelude.{◌≡◌, drop};
 ghost use Rattle.forms.specs.Shape.{word_byte, word_end, form_of, list_of, place_reply, reply_of_read};
 
 // The place behind what was read, or that it does not stand there.
-#[derive(Drop)]
+#[derive(Clone, Copy)]
 pub enum Read {
     Next(usize),
     Refused,

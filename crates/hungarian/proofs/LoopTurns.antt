@@ -1,14 +1,13 @@
 -- One step of each of the loops, as their proofs use it. Any numbers.
 use mathlib.Core.Path.{◌≡◌, refl, sym, ap, ◌∙◌}
 use mathlib.Core.Bool.{Bool, true, false, cond, not, ◌||◌}
-use mathlib.Core.List.{List, [], ◌∷◌}
-use Prim.Native.Nat.{ℕ, zero, suc, ◌+◌, ◌≤◌, ◌<◌}
+use mathlib.Core.List.{List}
+use Prim.Native.Nat.{ℕ, zero, suc, ◌+◌, ◌≤◌}
 use native.Mathlib.Numerals.{add-one}
 use native.Mathlib.Omega.{arith}
 use lib.ListN.{get_or, set}
-use lib.Dec.{lit<}
 use Rattle.kuhn_munkres.specs.Ops.{Ops}
-use Rattle.hungarian.specs.Passes.{Two, Least, Pots, relax_at, relaxed, better, chosen, lowered, pay_at, paid, two, pots, Quiet, QuietIf, FreeIf}
+use Rattle.hungarian.specs.Passes.{Two, Least, Pots, relaxed, better, chosen, lowered, pay_at, paid, two, pots, Quiet, QuietIf, FreeIf}
 
 or_first : (x y : Bool) → (x || y) ≡ false → x ≡ false
 or_first false y h = refl

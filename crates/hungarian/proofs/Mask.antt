@@ -9,8 +9,8 @@ use lib.Seq.{set-get_or}
 use Rattle.kuhn_munkres.specs.Ops.{Ops}
 use Rattle.kuhn_munkres.specs.Steps.{State, relax, scan, shift_at, shift}
 use Rattle.kuhn_munkres.proofs.Ranges.{shift_p}
-use Rattle.kuhn_munkres.proofs.Places.{scan_kept, scan_ahead, scan_looked, best, cur}
-use mathlib.Core.Logic.{inl, inr}
+use Rattle.kuhn_munkres.proofs.Places.{scan_kept, scan_ahead, scan_looked, cur}
+use mathlib.Core.Logic.{inr}
 use Rattle.hungarian.specs.Passes.{Two, Least, Pots, relax_at, relaxed, better, chosen, lowered, pay_at, paid, two, pots}
 
 pub record Outside {N : Type 0} (O : Ops N) : Type 0 where

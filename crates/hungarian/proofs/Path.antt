@@ -1,17 +1,16 @@
 -- The search for a free column, from the code's arrays.
-use mathlib.Core.Path.{◌≡◌, refl, sym, ap, ◌∙◌, subst}
-use mathlib.Core.Bool.{Bool, true, false, cond}
+use mathlib.Core.Path.{◌≡◌, refl, sym, ap, ◌∙◌}
+use mathlib.Core.Bool.{Bool, true, false}
 use mathlib.Core.List.{List}
-use Prim.Native.Nat.{ℕ, zero, suc, ◌+◌, ◌-◌, ◌≤◌, ◌<◌}
+use Prim.Native.Nat.{ℕ, suc, ◌+◌, ◌-◌, ◌≤◌, ◌<◌}
 use native.Mathlib.Omega.{arith}
 use borrow.Author.Tests.{eq-eqb, ne_eqb}
-use lib.ListN.{get_or, set, length, replicate}
+use lib.ListN.{get_or}
 use lib.Dec.{eqb}
 use lib.Ieee.{Float}
-use Rattle.kuhn_munkres.specs.Ops.{Ops}
 use Rattle.kuhn_munkres.specs.Binary64.{float}
 use lib.Ieee.Scale.{finite}
-use Rattle.kuhn_munkres.specs.Steps.{State, Search, found, stopped, spent, look, step, search, turned}
+use Rattle.kuhn_munkres.specs.Steps.{State, look, step, search, turned}
 use Rattle.kuhn_munkres.specs.Ranges.{Sane}
 use Rattle.kuhn_munkres.proofs.Ranges.{look_sane, step_sane, search_stop, search_on}
 use Rattle.hungarian.specs.Passes.{Least}

@@ -1,7 +1,6 @@
 -- Row after row, from the code's arrays.
 use mathlib.Core.Path.{◌≡◌, refl, sym, ap, ◌∙◌, subst}
-use mathlib.Core.Logic.{◌⊎◌, inl, inr}
-use mathlib.Core.Bool.{Bool, true, false}
+use mathlib.Core.Bool.{Bool, false}
 use mathlib.Core.List.{List}
 use Prim.Native.Nat.{ℕ, zero, suc, ◌+◌, ◌≤◌, ◌<◌, zero-le}
 use native.Mathlib.Omega.{arith}
@@ -9,7 +8,6 @@ use native.Mathlib.Numerals.{add-one}
 use lib.ListN.{get_or, set, length, replicate}
 use lib.Seq.{get_or-set_same}
 use lib.Ieee.{Float}
-use Rattle.kuhn_munkres.specs.Ops.{Ops}
 use Rattle.kuhn_munkres.specs.Binary64.{float}
 use Rattle.kuhn_munkres.specs.Steps.{State, Search, found, stopped, spent, mark, look, search, back, start, settle, fresh, enter, leave, rows}
 use Rattle.kuhn_munkres.specs.Ranges.{Sane}

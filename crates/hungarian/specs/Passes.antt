@@ -1,5 +1,5 @@
 -- The steps of a turn as the code takes them: the columns that are used have `out` in minv, so no step asks which they are; the scan is two passes. Any numbers.
-use Rattle.std.specs.Prelude.{◌≡◌, Bool, true, false, cond, List, [], ◌∷◌, ℕ, zero, suc, ◌+◌, ◌≤◌, ◌<◌, get_or, set}
+use Rattle.std.specs.Prelude.{◌≡◌, Bool, true, false, cond, List, ℕ, zero, suc, ◌+◌, ◌≤◌, ◌<◌, get_or, set}
 use Rattle.kuhn_munkres.specs.Ops.{Ops}
 
 pub record Two (N : Type 0) : Type 0 where

@@ -1,5 +1,7 @@
 // The steps of `hungarian_square` on the padded square of one group: shortest augmenting paths, row after row. The entries of the square are worked out from
 // the group's own table. A column that is used has a NaN in `minv`, so that no loop asks which they are.
+#![tactic(auto)]
+
 ghost use Rattle.std.specs.Prelude.{◌≡◌, cond, ℕ, ◌+◌, ◌*◌, ◌≤◌, ◌<◌, length, get_or};
 ghost use Rattle.std.specs.Float.Ieee.{lt};
 ghost use Rattle.std.specs.Float.Ieee.Scale.{finite};
@@ -11,7 +13,7 @@ ghost use Rattle.hungarian.specs.Passes.{better, chosen, lowered, paid, two, pot
 ghost use Rattle.hungarian.specs.Structs.{least_of, square_from};
 ghost use Rattle.hungarian.specs.Ends.{begun, met, met_of, end_of, pick_end, RunAnswer};
 
-#[derive(Drop)]
+#[derive(Clone, Copy)]
 pub struct Shape {
     pub rows: usize,
     pub cols: usize,
@@ -20,7 +22,7 @@ pub struct Shape {
     pub col: f64,
 }
 
-#[derive(Drop)]
+#[derive(Clone, Copy)]
 pub struct Best {
     pub delta: f64,
     pub j1: usize,
@@ -295,7 +297,7 @@ fn shift_all(
     lower(minv, n, delta);
 }
 
-#[derive(Drop)]
+#[derive(Clone, Copy)]
 pub struct Met {
     pub status: usize,
     pub j0: usize,
@@ -374,7 +376,7 @@ fn hungarian_square(costs: &[f64], q: Shape, p: &mut [usize; 129]) -> usize
 }
 
 // How a run ends: the rows of the columns are given; too many rows or columns; a table of another size, or a step that is not finite.
-#[derive(Drop)]
+#[derive(Clone, Copy)]
 pub enum Run {
     Matched,
     TooMany,

@@ -1,7 +1,5 @@
 -- Lines that are refused, through the whole definition: 13, then 11, then 10.
 use mathlib.Core.Path.{◌≡◌, refl}
-use mathlib.Core.List.{List, []}
-use Prim.Native.Nat.{ℕ}
 use Prim.Native.String.{String}
 use Rattle.forms.specs.Bytes.{bytes_of}
 use Rattle.forms.specs.Shape.{form_of, bracketed as formed-bracket, inside as formed-inside, forms_of, behind as formed-behind, word, past_word}

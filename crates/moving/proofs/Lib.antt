@@ -1,4 +1,3 @@
 pub mod Moves
 pub mod Passing
 pub mod Tracks
-pub mod Lending

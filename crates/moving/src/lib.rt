@@ -1,4 +1,6 @@
 // The tracks at a later time: each is kept or dropped by its life, and moved by its filter.
+#![tactic(auto)]
+
 ghost use Rattle.std.specs.Prelude.{◌≡◌};
 ghost use Rattle.number.specs.Reply.{given, and_then};
 ghost use Rattle.filter.specs.Filter.{reply_of_step};
@@ -14,21 +16,21 @@ use types::track::Track3D;
 use types::tracker::Cartesian3DTracker;
 
 // Whether a step on a track was carried out, and the track after it, as it was where the step is refused.
-#[derive(Drop)]
+#[derive(Clone, Copy)]
 pub struct TrackStep {
     pub outcome: Outcome,
     pub track: Track3D,
 }
 
 // The same for the whole tracker.
-#[derive(Drop)]
+#[derive(Clone, Copy)]
 pub struct TrackerStep {
     pub outcome: Outcome,
     pub tracker: Cartesian3DTracker,
 }
 
 // A track with the life that a time leaves it, and whether it goes on.
-#[derive(Drop)]
+#[derive(Clone, Copy)]
 pub struct AgedTrack {
     pub track: Track3D,
     pub verdict: Verdict,
@@ -98,7 +100,7 @@ pub fn move_track(x: Track3D, time: i64, density: f64) -> TrackStep
 }
 
 // What becomes of a track at a later time.
-#[derive(Drop)]
+#[derive(Clone, Copy)]
 pub enum Fate {
     Dropped,
     Kept,
@@ -106,7 +108,7 @@ pub enum Fate {
 }
 
 // With the track that it leaves, where it is kept.
-#[derive(Drop)]
+#[derive(Clone, Copy)]
 pub struct Carried {
     pub fate: Fate,
     pub track: Track3D,

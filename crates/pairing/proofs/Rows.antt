@@ -1,11 +1,9 @@
 -- The rows of tracks: what a loop that makes them has done by index i, and what `calls` says of the tracks. Assumes nothing.
 use mathlib.Core.Path.{◌≡◌, refl, sym, ap, ◌∙◌}
-use mathlib.Core.Bool.{Bool}
 use mathlib.Core.List.{List, [], ◌∷◌, map}
 use Prim.Native.Nat.{ℕ, zero, suc, ◌+◌, ◌<◌, min}
 use native.Mathlib.Omega.{arith}
 use lib.IntN.{ℤ}
-use lib.Ieee.{Float}
 use lib.ListN.{length, take, get_or, set, length-map, length-take}
 use Rattle.number.specs.Reply.{Reply, and_then, given}
 use Rattle.lists.specs.Lay.{lay}

@@ -1,4 +1,6 @@
 // Which detection goes to which track: what is read of a track, the recent ones, the column of each row.
+#![tactic(auto)]
+
 ghost use Rattle.std.specs.Prelude.{◌≡◌, map, ◌≤◌, length, take, replicate};
 ghost use Rattle.lists.specs.Lay.{lay};
 ghost use Rattle.assignment.specs.Taking.{takers_of};
@@ -17,7 +19,7 @@ use types::refusal::{Outcome, Refusal};
 use types::track::Track3D;
 
 // What the pairing reads of a track; the position that its filter expects is worked out once for all detections.
-#[derive(Drop)]
+#[derive(Clone, Copy)]
 pub struct Row {
     pub target: Target,
     pub id: u64,
@@ -116,7 +118,7 @@ pub fn mates_of(takers: &[usize; 64], m: usize, mates: &mut [usize; 64])
 }
 
 // Whether a track was seen within the window, or that its age is one that an i64 does not hold.
-#[derive(Drop)]
+#[derive(Clone, Copy)]
 pub enum Recency {
     Recent,
     Old,

@@ -7,7 +7,7 @@ use settings::Cartesian3DTrackerConfig;
 use settings::frame::FrameName;
 
 #[repr(C)]
-#[derive(Drop)]
+#[derive(Clone, Copy)]
 pub struct PkSettings {
     pub lifecycle: LifecycleConfig,
     pub max_contributing_sensors: usize,

@@ -12,7 +12,7 @@ use types::track::Track3D;
 use types::tracker::{BirthCandidate, Cartesian3DTracker, SensorSequence};
 
 #[repr(C)]
-#[derive(Drop)]
+#[derive(Clone, Copy)]
 pub struct PkTracker {
     pub tracks: [PkTrack; 64],
     pub track_count: usize,

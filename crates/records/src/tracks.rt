@@ -8,7 +8,7 @@ use lifecycle::sensors::Sensors;
 use types::track::Track3D;
 
 #[repr(C)]
-#[derive(Drop)]
+#[derive(Clone, Copy)]
 pub struct PkTrack {
     pub id: u64,
     pub filter: KalmanFilter,

@@ -3,20 +3,20 @@ use mathlib.Core.Path.{◌≡◌, refl, ap, sym, ◌∙◌}
 use mathlib.Core.Bool.{Bool, true, false, cond, ◌&&◌}
 use mathlib.Core.Option.{Option, none, some}
 use mathlib.Core.List.{List, [], ◌∷◌, ◌++◌}
-use Prim.Native.Nat.{ℕ, zero, suc, ◌+◌, ◌-◌, ◌<◌, ◌≤◌}
+use Prim.Native.Nat.{ℕ, suc, ◌+◌, ◌-◌, ◌≤◌}
 use native.Mathlib.Numerals.{add-one}
 use native.Mathlib.Omega.{arith}
 use borrow.Author.Tests.{eq-eqb, ne_eqb}
 use lib.Dec.{eqb}
 use lib.IntN.{ℤ, pos, negsuc}
-use lib.ListN.{length, take, drop, get_or, set, length-append, length-drop, drop_of_length-le}
+use lib.ListN.{length, take, drop, get_or, set, length-drop, drop_of_length-le}
 use lib.Seq.{sets, drop-cons}
 use lib.Ieee.{Float}
 use Rattle.number.specs.Reply.{refused}
 use Rattle.kuhn_munkres.specs.Assignment.{in_one}
-use Rattle.forms.proofs.Shapes.{never, Tail, one, more, on, inner}
-use Rattle.request.specs.Listed.{after, told, bracketed}
-use Rattle.request.specs.Request.{argument_of, begins, opening, Sizes, costed, columned, rowed, head_of, head_answer, Request, closing, closed, table_of, tabled, request_of, even, shaped, Stored, store_one, Filled, fill_row, rows_answer, TableRead, table_told, row_of}
+use Rattle.forms.proofs.Shapes.{never, Tail, on, inner}
+use Rattle.request.specs.Listed.{after, told}
+use Rattle.request.specs.Request.{argument_of, begins, opening, Sizes, costed, columned, rowed, head_of, head_answer, Request, closing, closed, table_of, tabled, request_of, even, Stored, store_one, Filled, fill_row, rows_answer, TableRead, table_told, row_of}
 use Rattle.request.specs.Asking.{asked_reply, reply_of_asked, over, no_costs, ReadingAnswer, AskedRead}
 use Rattle.request.specs.declared.head.Head.TheVariants.{Stated, NoHead}
 use Rattle.request.specs.declared.table.Rows.TheVariants.{Read, NoRows}

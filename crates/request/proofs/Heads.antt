@@ -3,16 +3,16 @@ use mathlib.Core.Path.{◌≡◌, refl, ap, sym, ◌∙◌}
 use mathlib.Core.Bool.{Bool, true, false, cond}
 use mathlib.Core.Option.{Option, none, some}
 use mathlib.Core.List.{List, [], ◌∷◌}
-use Prim.Native.Nat.{ℕ, zero, suc, ◌+◌, ◌-◌, ◌<◌, ◌≤◌}
+use Prim.Native.Nat.{ℕ}
 use native.Mathlib.Omega.{arith}
 use lib.Dec.{eqb}
 use lib.IntN.{ℤ, pos, negsuc}
-use lib.ListN.{length, drop}
-use lib.Ieee.{Float, binary64, of_int, neg}
+use lib.ListN.{drop}
+use lib.Ieee.{binary64, of_int, neg}
 use Rattle.forms.specs.Shape.{past_word}
 use Rattle.forms.proofs.Shapes.{never, Tail, one, more, on, past_tail}
 use Rattle.forms.specs.Decimal.{decimal_of}
-use Rattle.request.specs.Request.{word_of, leaving, blank, argument_of, begins, opening, numbered_of, head_answer, costed, columned, rowed, head_of, Sizes}
+use Rattle.request.specs.Request.{word_of, leaving, blank, argument_of, begins, opening, numbered_of, head_answer, costed, columned, rowed, head_of}
 use Rattle.request.specs.declared.words.Numbered.TheVariants.{Plus, Minus, NoNumber}
 use Rattle.request.specs.declared.head.Head.TheVariants.{Stated, NoHead}
 use Rattle.request.proofs.Lists.{rest_of, Leaves, Got, got}

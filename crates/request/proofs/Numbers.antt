@@ -1,6 +1,6 @@
 -- Words: what a number's and an entry's answers say.
 use mathlib.Core.Path.{◌≡◌, refl, ap, sym, ◌∙◌}
-use mathlib.Core.Bool.{Bool, true, false, cond, not, ◌&&◌, true≢false}
+use mathlib.Core.Bool.{Bool, true, false, cond, ◌&&◌, true≢false}
 use mathlib.Core.Option.{Option, none, some}
 use mathlib.Core.List.{List, [], ◌∷◌}
 use Prim.Native.Nat.{ℕ, zero, suc, ◌+◌, ◌-◌, ◌*◌, ◌^◌, ◌/◌, ◌%◌, ◌<◌, ◌≤◌, compare}
@@ -11,15 +11,15 @@ use lib.Dec.{eqb, ltb}
 use lib.IntN.{ℤ, pos, negsuc}
 use lib.ListN.{length, take, drop, get_or, length-drop, drop_of_length-le}
 use lib.Seq.{drop-cons}
-use lib.Ieee.{Float, Format, binary64, of_int, of_bits, of_fields, inf, fin, nan, neg, round, units, odd, low, prec, emax, size, nearest}
+use lib.Ieee.{Float, Format, binary64, of_int, of_bits, of_fields, inf, neg, round, units, odd, low, prec, emax, size, nearest}
 use Rattle.number.specs.Reply.{refused, given}
-use Rattle.forms.specs.Shape.{past_word, word_end}
-use Rattle.forms.proofs.Shapes.{Tail, one, more, on, past_tail, Passed, passed}
+use Rattle.forms.specs.Shape.{word_end}
+use Rattle.forms.proofs.Shapes.{Passed, passed}
 use Rattle.forms.specs.Decimal.{decimal_of, decimal_reply}
 use Rattle.request.specs.Request.{word_of, dash, leaving, cost_of, cost_in, entry_of, blank, argument_of, begins, numbered_of, item_of}
 use Rattle.request.specs.declared.words.Numbered.TheVariants.{Plus, Minus, NoNumber}
 use Rattle.request.specs.declared.words.Item.TheVariants.{Cost, NoItem}
-use Rattle.request.proofs.Lists.{rest_of, place, Leaves, Got, got}
+use Rattle.request.proofs.Lists.{place}
 
 -- ---- a dash
 pub dash_one : (w : List ℕ) → length w ≡ 1 → eqb (get_or w 0 0) 45 ≡ dash w

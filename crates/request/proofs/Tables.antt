@@ -1,9 +1,9 @@
 -- Rows and tables: what an entry and a row leave, and what their readers' answers say.
 use mathlib.Core.Path.{◌≡◌, refl, ap, sym, ◌∙◌}
-use mathlib.Core.Bool.{Bool, true, false, cond, ◌&&◌}
+use mathlib.Core.Bool.{◌&&◌}
 use mathlib.Core.Option.{Option, none, some}
 use mathlib.Core.List.{List, [], ◌∷◌}
-use Prim.Native.Nat.{ℕ, zero, suc, ◌+◌, ◌-◌, ◌<◌, ◌≤◌}
+use Prim.Native.Nat.{ℕ, ◌+◌, ◌-◌, ◌≤◌}
 use native.Mathlib.Omega.{arith}
 use lib.Dec.{eqb}
 use lib.ListN.{length, drop}
@@ -11,8 +11,8 @@ use lib.Ieee.{Float}
 use Rattle.forms.specs.Shape.{past_word}
 use Rattle.forms.proofs.Shapes.{never, Tail, one, more, past_tail}
 use Rattle.forms.specs.Decimal.{decimal_of}
-use Rattle.request.specs.Listed.{Reader, listed, bracketed, after, told}
-use Rattle.request.specs.Request.{word_of, dash, leaving, cost_of, cost_in, entry_of, item_of, row_of, table_of, Stored, store_one, row_answer, RowRead, row_told, Filled, fill_from, fill_row, rows_answer, TableRead, table_told}
+use Rattle.request.specs.Listed.{after, told}
+use Rattle.request.specs.Request.{word_of, dash, leaving, cost_of, cost_in, entry_of, item_of, row_of, Stored, store_one, row_answer, RowRead, row_told, Filled, fill_from, fill_row, rows_answer, TableRead}
 use Rattle.request.specs.declared.words.Item.TheVariants.{Cost, NoItem}
 use Rattle.request.specs.declared.table.Row.{Row}
 use Rattle.request.specs.declared.table.Row.TheVariants.{Items, NoRow}

@@ -1,6 +1,6 @@
 -- Lists in brackets, of anything that a reader `one` reads: single blanks between, brackets may be empty.
 -- A reader gives what stands at the head of the bytes, and what is left behind it.
-use Rattle.std.specs.Prelude.{Bool, true, false, cond, List, [], ◌∷◌, ℕ, zero, suc, ◌-◌, eqb, length}
+use Rattle.std.specs.Prelude.{cond, List, [], ◌∷◌, ℕ, zero, suc, ◌-◌, eqb, length}
 use Rattle.std.proofs.Math.Option.{Option, none, some}
 
 abbrev pub Reader : Type 0 → Type 0

@@ -1,6 +1,6 @@
 -- What a line asks. 01, Line of the program `assign`: "Input `(assign 2 2 10 ((1 2) (- 4)))`: rows and columns (0 or more), row cost, table; `-` forbids and
 -- stands only in the table; decimal −1,000,000 to 1,000,000, no leading zero, no `-0`."
-use Rattle.std.specs.Prelude.{◌≡◌, Bool, true, false, cond, ◌&&◌, List, [], ◌∷◌, ℕ, zero, suc, ◌+◌, ◌-◌, ◌≤◌, eqb, ℤ, pos, negsuc, length, take, drop, set, Float}
+use Rattle.std.specs.Prelude.{◌≡◌, Bool, true, false, cond, ◌&&◌, List, [], ◌∷◌, ℕ, suc, ◌+◌, ◌-◌, ◌≤◌, eqb, ℤ, pos, negsuc, length, take, drop, set, Float}
 use Rattle.std.proofs.Math.Option.{Option, none, some}
 use Rattle.std.specs.Float.{binary64, inf}
 use Rattle.std.specs.Float.Ieee.{of_int}

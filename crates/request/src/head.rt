@@ -5,7 +5,7 @@ ghost use Rattle.request.specs.Request.{head_answer, argument_of, costed, column
 use crate::words::Numbered;
 
 // Rows, columns and row cost, with the place of the table.
-#[derive(Drop)]
+#[derive(Clone, Copy)]
 pub enum Head {
     Stated(u32, u32, f64, usize),
     NoHead,

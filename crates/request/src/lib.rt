@@ -1,4 +1,6 @@
 // What a line of the program `assign` asks: its head, its table, and the end of the line.
+#![tactic(auto)]
+
 mod head;
 mod table;
 mod words;
@@ -11,14 +13,14 @@ use head::Head;
 use table::Rows;
 
 // Rows, columns and row cost, and whether the table has the stated rows, each of the stated columns.
-#[derive(Drop)]
+#[derive(Clone, Copy)]
 pub enum Asked {
     Table(u32, u32, f64, bool),
     NoRequest,
 }
 
 // What is asked, with the table's costs row after row and zeros after them. Costs that have no place are left out: such a table is refused.
-#[derive(Drop)]
+#[derive(Clone, Copy)]
 pub struct Reading {
     pub asked: Asked,
     pub costs: [f64; 4096],

@@ -7,14 +7,14 @@ ghost use Rattle.request.specs.Request.{entry_of, row_of, table_of, row_told, Ro
 use crate::words::Item;
 
 // How many entries, with the place behind the row.
-#[derive(Drop)]
+#[derive(Clone, Copy)]
 pub enum Row {
     Items(usize, usize),
     NoRow,
 }
 
 // How many rows, whether each has the stated columns, and the place behind the table.
-#[derive(Drop)]
+#[derive(Clone, Copy)]
 pub enum Rows {
     Read(usize, bool, usize),
     NoRows,

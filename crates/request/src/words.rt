@@ -6,7 +6,7 @@ ghost use Rattle.request.specs.Request.{dash, begins, argument_of, numbered_of, 
 use forms::decimal::Decimal;
 
 // A number's sign and size, with the place behind it.
-#[derive(Drop)]
+#[derive(Clone, Copy)]
 pub enum Numbered {
     Plus(u32, usize),
     Minus(u32, usize),
@@ -14,7 +14,7 @@ pub enum Numbered {
 }
 
 // A cost, with the place behind it; a forbidden pair's is +infinity.
-#[derive(Drop)]
+#[derive(Clone, Copy)]
 pub enum Item {
     Cost(f64, usize),
     NoItem,

@@ -1,4 +1,6 @@
 // What pairs read of a batch's detections, laid out once in arrays of numbers; and which of them have the same covariance.
+#![tactic(auto)]
+
 ghost use Rattle.std.specs.Prelude.{◌≡◌, true, map, ◌≤◌, ◌<◌, length, take};
 ghost use Rattle.sightings.specs.Sights.{label_of, is_labelled, class_at, sight_of, sights_in, Kin};
 

@@ -1,4 +1,6 @@
 // The tables of a tracker: each operation equals one on lists. Those of tracks and candidates take the whole state by value and change it in place; sensors are noted in their table by itself as well.
+#![tactic(auto)]
+
 ghost use Rattle.std.specs.Prelude.{◌≡◌, min};
 
 pub mod candidates;
@@ -6,7 +8,7 @@ pub mod sequences;
 pub mod tracks;
 
 // Where a search ended.
-#[derive(Drop)]
+#[derive(Clone, Copy)]
 pub enum Place {
     Nowhere,
     At(usize),

@@ -10,14 +10,14 @@ use types::MAX_SEQUENCES;
 use types::tracker::{Cartesian3DTracker, SensorSequence};
 
 // The table by itself, for whoever holds it in another state.
-#[derive(Drop)]
+#[derive(Clone, Copy)]
 pub struct Sequences {
     pub entries: [SensorSequence; MAX_SEQUENCES],
     pub count: usize,
 }
 
 // The latest sequence number of a sensor, where it has one.
-#[derive(Drop)]
+#[derive(Clone, Copy)]
 pub enum LastSequence {
     Nothing,
     Sequence(u64),

@@ -2,14 +2,14 @@
 use mathlib.Core.Path.{◌≡◌, refl, ap, sym, ◌∙◌}
 use mathlib.Core.Bool.{Bool, true, false, cond}
 use mathlib.Core.List.{List, [], ◌∷◌, ◌++◌, append_assoc, append-nil}
-use Prim.Native.Nat.{ℕ, zero, suc, ◌+◌, ◌-◌, ◌*◌, ◌<◌, ◌≤◌, ◌/◌, ◌%◌, min}
+use Prim.Native.Nat.{ℕ, zero, suc, ◌+◌, ◌<◌, ◌≤◌, ◌/◌, ◌%◌, min}
 use native.Mathlib.Numerals.{add-one}
 use native.Mathlib.Omega.{arith}
 use native.Mathlib.Decide.{dec_le}
 use borrow.Author.Tests.{lt-ltb, le-ltb}
 use lib.Dec.{ltb}
-use lib.ListN.{length, take, drop, get_or, set, length-append, length-drop}
-use lib.Seq.{paste, paste-suc, paste-zero, length-paste, take-length, take_at, drop-drop, drop-append-add, take-suc, take_all}
+use lib.ListN.{length, take, drop, get_or, set, length-append}
+use lib.Seq.{paste, paste-suc, length-paste, take-length, take_at, drop-drop, drop-append-add, take-suc, take_all}
 use Rattle.forms.specs.Bytes.{bytes_of}
 use Rattle.kuhn_munkres.specs.Assignment.{Pair, Pairs}
 use Rattle.lists.specs.Lay.{lay}
@@ -171,3 +171,11 @@ wrote_fits {t} {o} {r} {o'} w =
     let e : length o' ≡ length t + length (drop (length t) o) = ap length w.holds ∙ length-append t (drop (length t) o) in
     let p : r ≡ length t = w.place in
     omega arith
+
+-- what was written where there is room
+pub wrote_front : (n : ℕ) {t o : List ℕ} {r : ℕ} {o' : List ℕ} → 1024 ≤ n → Wrote (roomed n t) o r o' → take r o' ≡ t
+unfolding lay
+wrote_front n {t} {o} {r} {o'} h w =
+    let e : t ≡ roomed n t = room n t h in
+    let k : r ≡ length t = w.place ∙ ap length (sym e) in
+    ap (λ i. take i o') k ∙ ap (take (length t)) (w.holds ∙ ap (λ l. lay l o) (sym e)) ∙ take_at t (drop (length t) o) (length t) refl

@@ -1,6 +1,6 @@
 -- What is written, as bytes. 01, Line of the program `assign`: "Whole output: `(answer (pairs (0 0) (1 1)) (rows) (columns))`: pairs as row and column, then those
 -- unmatched, from 0. A refusal prints `(refused 13)`, with its own number. Either output ends with a newline."
-use Rattle.std.specs.Prelude.{◌≡◌, Bool, true, false, cond, List, [], ◌∷◌, ◌++◌, ℕ, zero, suc, ◌+◌, ◌/◌, ◌%◌, ltb, length}
+use Rattle.std.specs.Prelude.{◌≡◌, cond, List, [], ◌∷◌, ◌++◌, ℕ, ◌+◌, ◌/◌, ◌%◌, ltb, length}
 use Rattle.forms.specs.Bytes.{bytes_of}
 use Rattle.number.specs.Reply.{Reply, refused, given}
 use Rattle.lists.specs.Lay.{lay}

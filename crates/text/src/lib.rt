@@ -1,4 +1,6 @@
 // What the program `assign` writes: an answer or a refusal, put byte after byte into a lent buffer.
+#![tactic(auto)]
+
 ghost use Rattle.std.specs.Prelude.{◌≡◌, ◌+◌, ◌≤◌, ◌<◌, min, length, take};
 ghost use Rattle.lists.specs.Masks.{zipped};
 ghost use Rattle.assignment.specs.Listing.{pair_of, pairs_in};

@@ -4,7 +4,7 @@ use settings::frame::FrameName;
 use settings::optional::OptionalF64;
 
 // The count may be anything: one over 64 is refused before all else.
-#[derive(Drop)]
+#[derive(Clone, Copy)]
 pub struct ObservationBatch3D {
     pub sensor_id: u32,
     pub sequence: u64,
@@ -15,7 +15,7 @@ pub struct ObservationBatch3D {
 }
 
 // What became of a detection.
-#[derive(Drop)]
+#[derive(Clone, Copy)]
 pub enum ObservationOutcome {
     Updated,
     Spawned,
@@ -23,13 +23,13 @@ pub enum ObservationOutcome {
 }
 
 // The track that a detection updated or spawned, where it did.
-#[derive(Drop)]
+#[derive(Clone, Copy)]
 pub enum AssociatedTrack {
     None,
     Id(u64),
 }
 
-#[derive(Drop)]
+#[derive(Clone, Copy)]
 pub struct ObservationAssociation {
     pub observation_index: usize,
     pub track_id: AssociatedTrack,
@@ -39,7 +39,7 @@ pub struct ObservationAssociation {
 }
 
 // One association for each detection, in the batch's order, and the tracks that none was paired with, in the table's.
-#[derive(Drop)]
+#[derive(Clone, Copy)]
 pub struct BatchReport3D {
     pub timestamp: i64,
     pub sensor_id: u32,

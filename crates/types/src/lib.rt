@@ -1,4 +1,5 @@
 // The records of the tracker: tracks, batches, reports, the whole state by value, and the refusals of its calls.
+#![tactic(auto)]
 
 pub mod batch;
 pub mod refusal;

@@ -5,7 +5,7 @@ ghost use Rattle.assignment.specs.Replies as assignment;
 ghost use Rattle.settings.specs.Settings as settings;
 ghost use Rattle.types.specs.Refusals.{number_of, reply_of, settings_reply_of};
 
-#[derive(Drop)]
+#[derive(Clone, Copy)]
 pub enum Refusal {
     // With the number of the first bad field.
     InvalidConfig(u32),
@@ -23,7 +23,7 @@ pub enum Refusal {
 }
 
 // Whether a call was carried out.
-#[derive(Drop)]
+#[derive(Clone, Copy)]
 pub enum Outcome {
     Done,
     Refused(Refusal),

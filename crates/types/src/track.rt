@@ -9,13 +9,13 @@ use lifecycle::sensors::Sensors;
 use lifecycle::{Observation, TrackLifecycle, TrackLifecycleState};
 
 // The sensor of the latest update, where there was one.
-#[derive(Drop)]
+#[derive(Clone, Copy)]
 pub enum UpdateSensor {
     Nobody,
     Sensor(u32),
 }
 
-#[derive(Drop)]
+#[derive(Clone, Copy)]
 pub struct Track3D {
     pub id: u64,
     pub filter: KalmanFilter,
@@ -30,7 +30,7 @@ pub struct Track3D {
 }
 
 // What is shown of a track.
-#[derive(Drop)]
+#[derive(Clone, Copy)]
 pub struct Track3DSnapshot {
     pub track_id: u64,
     pub lifecycle: TrackLifecycleState,
@@ -49,7 +49,7 @@ pub struct Track3DSnapshot {
 }
 
 // What is shown of all tracks, in the table's order: the first `count` places.
-#[derive(Drop)]
+#[derive(Clone, Copy)]
 pub struct Snapshots {
     pub items: [Track3DSnapshot; super::MAX_TRACKS],
     pub count: usize,

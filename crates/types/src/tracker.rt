@@ -12,7 +12,7 @@ use settings::Cartesian3DTrackerConfig;
 
 // A detection too near a confirmed track, which may turn out to be a neighbour.
 #[repr(C)]
-#[derive(Drop)]
+#[derive(Clone, Copy)]
 pub struct BirthCandidate {
     pub position: [f64; 3],
     pub last_seen: i64,
@@ -21,13 +21,13 @@ pub struct BirthCandidate {
 
 // The sequence number of a sensor's latest batch.
 #[repr(C)]
-#[derive(Drop)]
+#[derive(Clone, Copy)]
 pub struct SensorSequence {
     pub sensor: u32,
     pub sequence: u64,
 }
 
-#[derive(Drop)]
+#[derive(Clone, Copy)]
 pub struct Cartesian3DTracker {
     pub tracks: [Track3D; super::MAX_TRACKS],
     pub track_count: usize,

@@ -1,0 +1,27 @@
+use native.Mathlib.Omega.{arith}
+use mathlib.Core.Path.{◌≡◌}
+use Prim.Native.Nat.{◌≤◌}
+use lib.ListN.{length}
+use Rattle.assignment.proofs.Listings.{freeing_none, free_room, freeing_skip, freeing_take, freeing_done}
+use Rattle.assignment.proofs.pair_lists.list_columns.Goals as goal
+
+pub loop-j-init : goal.loop-j-init
+loop-j-init c = (omega arith, λ h l. freeing_none _ _ h l _ c.requires.1)
+
+pub loop-j-preserved-then-takers-j-lt64 : goal.loop-j-preserved-then-takers-j-lt64
+loop-j-preserved-then-takers-j-lt64 c = (omega arith, λ h g. freeing_skip _ _ h g _ _ _ c.loop-j-test.true (c.loop-j.invariant.1 h g) c.if-takers-j-lt64.true)
+
+pub loop-j-preserved : goal.loop-j-preserved
+loop-j-preserved c = (omega arith, λ h g. freeing_take _ _ h g _ _ _ c.loop-j-test.true (c.loop-j.invariant.1 h g) (omega (arith, c.if-takers-j-lt64.false)))
+
+pub returns : goal.returns
+returns c = let e : c.loop-j.j ≡ c.args.columns = omega (arith, c.loop-j-test.false, c.loop-j.invariant.0) in let h = c.requires.0 in let g : c.args.columns ≤ length c.args.takers.now = rw c.requires.2 h in freeing_done _ _ h g _ _ (rw e at (c.loop-j.invariant.1 h g))
+
+pub offset_bounds-free-n : goal.offset_bounds-free-n
+offset_bounds-free-n c = omega (arith, free_room _ _ c.requires.0 (rw c.requires.2 c.requires.0) _ _ _ c.loop-j-test.true (c.loop-j.invariant.1 c.requires.0 (rw c.requires.2 c.requires.0)))
+
+pub bounds-free-n : goal.bounds-free-n
+bounds-free-n c = omega (arith, free_room _ _ c.requires.0 (rw c.requires.2 c.requires.0) _ _ _ c.loop-j-test.true (c.loop-j.invariant.1 c.requires.0 (rw c.requires.2 c.requires.0)))
+
+pub overflow_add-n : goal.overflow_add-n
+overflow_add-n c = omega (arith, free_room _ _ c.requires.0 (rw c.requires.2 c.requires.0) _ _ _ c.loop-j-test.true (c.loop-j.invariant.1 c.requires.0 (rw c.requires.2 c.requires.0)))

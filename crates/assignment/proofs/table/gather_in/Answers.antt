@@ -1,0 +1,32 @@
+use native.Mathlib.Omega.{arith}
+use mathlib.Core.Path.{◌≡◌, refl}
+use borrow.Author.Tests.{eq-eqb, ne_eqb}
+use native.Mathlib.Nat.{suc-mul, mul-le-mul_right}
+use Rattle.assignment.proofs.Picking.{gathering_none, gather_room, gather_member, gathering_skip, gathering_take, gathered}
+use Rattle.assignment.proofs.table.gather_in.Goals as goal
+
+pub loop-i-init : goal.loop-i-init
+loop-i-init c = (omega arith, gathering_none _ _ _ _ _ _ _ _ _ refl c.requires.5)
+
+pub gather_row-k-requires : goal.gather_row-k-requires
+gather_row-k-requires c =
+    let t = c.loop-i-test.true in
+    let m = c.args.columns in
+    let e = c.loop-i.invariant.1.table.long in (
+      omega (arith, suc-mul c.loop-i.i m, mul-le-mul_right m t, c.requires.2),
+      c.requires.1,
+      omega (arith, gather_room _ _ _ _ _ _ _ _ _ _ _ _ _ _ c.requires.0 c.requires.1 t c.loop-i.invariant.1, c.requires.3, e),
+      omega (arith, e, c.requires.4),
+    )
+
+pub loop-i-preserved-then-row_names-i : goal.loop-i-preserved-then-row_names-i
+loop-i-preserved-then-row_names-i c = let t = c.loop-i-test.true in (omega arith, gathering_take _ _ _ _ _ _ _ _ _ _ _ _ _ _ c.requires.0 c.requires.1 t c.loop-i.invariant.1 (eq-eqb _ _ c.if-row_names-i.true) _ _ (rw c.loop-i.invariant.1.table.long at c.gather_row-k.ensures))
+
+pub loop-i-preserved : goal.loop-i-preserved
+loop-i-preserved c = let t = c.loop-i-test.true in (omega arith, gathering_skip _ _ _ _ _ _ _ _ _ _ _ _ _ _ c.requires.0 c.requires.1 t c.loop-i.invariant.1 (ne_eqb _ _ c.if-row_names-i.false))
+
+pub returns : goal.returns
+returns c = let e : c.loop-i.i ≡ c.args.rows = omega (arith, c.loop-i-test.false, c.loop-i.invariant.0) in gathered _ _ _ _ _ _ _ _ _ _ _ _ _ (rw e at c.loop-i.invariant.1)
+
+pub bounds-members-r : goal.bounds-members-r
+bounds-members-r c = omega (arith, gather_member _ _ _ _ _ _ _ _ _ _ _ _ _ _ c.requires.0 c.requires.1 c.loop-i-test.true c.loop-i.invariant.1)

@@ -1,0 +1,18 @@
+use mathlib.Core.Path.{◌≡◌, sym, ap, ◌∙◌}
+use lib.Ieee.{Float}
+use Rattle.number.specs.Reply.{Reply, refused, given, code_of, left_in}
+use Rattle.square_root.specs.Root.{root_reply, reply_of_root}
+use Rattle.square_root.proofs.Cases.{positive_given}
+use Rattle.c_solvers.proofs.root.square_root.Goals as goal
+
+pub returns-in-Value : goal.returns-in-Value
+returns-in-Value c =
+    let at = c in
+    let e : given c.in-Value.v ≡ root_reply at.args.x = ap reply_of_root (sym c.in-Value.is) ∙ at.root.ensures.is in
+    record { code = ap code_of e; out = ap (λ (r : Reply Float). left_in r at.args.out.now) e; nearest = λ p. at.root.ensures.nearest _ p (sym e) }
+
+pub returns-in-Refused : goal.returns-in-Refused
+returns-in-Refused c =
+    let at = c in
+    let e : refused 9 ≡ root_reply at.args.x = ap reply_of_root (sym c.in-Refused.is) ∙ at.root.ensures.is in
+    record { code = ap code_of e; out = ap (λ (r : Reply Float). left_in r at.args.out.now) e; nearest = λ p. absurd (positive_given _ 9 p (sym e)) }

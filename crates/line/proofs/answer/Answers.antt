@@ -1,0 +1,15 @@
+-- A line that is no form is refused with 13; another one is what `decide` writes.
+use borrow.Author.Rules.{rules}
+use Rattle.text.proofs.Texts.{wrote_in}
+use Rattle.line.proofs.Lines.{not_formed, by_request}
+use Rattle.line.proofs.answer.Goals as goal
+
+pub returns-then-not-is_formed : goal.returns-then-not-is_formed
+returns-then-not-is_formed c =
+    let input = c.args.input.now in
+    wrote_in _ (not_formed input (search rules)) c.write_refusal.ensures
+
+pub returns : goal.returns
+returns c =
+    let input = c.args.input.now in
+    wrote_in _ (by_request input (search rules)) c.decide.ensures

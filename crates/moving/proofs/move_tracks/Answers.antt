@@ -1,0 +1,58 @@
+-- The loop keeps `Passed`: the tracks before i were aged, dropped or moved, and those kept stand in front. A refusal and the end are its two other laws.
+use mathlib.Core.Path.{sym, ap, ◌∙◌}
+use native.Mathlib.Omega.{arith}
+use mir.Syntax.{w64}
+use mir.Val.{to_z, of_z}
+use mir.Facts.{to_z-of_z}
+use borrow.Author.Rules.{rules}
+use Rattle.lists.proofs.Laying.{length_mapped}
+use Rattle.tables.proofs.Stores.{no_track}
+use Rattle.types.specs.Refusals.{number_of}
+use Rattle.moving.specs.declared.Fate.{Fate}
+use Rattle.moving.specs.Steps.{fate_of, moved_tracks}
+use Rattle.moving.proofs.Passing.{passed_start, passed_drop, passed_keep, passed_stops}
+use Rattle.moving.proofs.Tracks.{drops, keeps, stops, carries_out, refuses, all_stop, all_moved}
+use Rattle.moving.proofs.move_tracks.Goals as goal
+
+pub loop-i-init : goal.loop-i-init
+loop-i-init c = (search rules, omega (arith, c.taken-n.ensures), search (rules, length_mapped), search rules, passed_start _ _ _)
+
+pub loop-i-preserved-in-Dropped : goal.loop-i-preserved-in-Dropped
+loop-i-preserved-in-Dropped c =
+    let v = c.loop-i.invariant in
+    let r = c.carry-c.result in (
+      search rules,
+      v.1,
+      v.2,
+      omega arith,
+      passed_drop _ _ _ _ _ _ no_track v.4 (omega arith) (drops _ _ _ _ (sym c.carry-c.ensures ∙ ap (λ (f : Fate). fate_of f r.track) c.in-Dropped.is)),
+    )
+
+pub returns-in-Refused : goal.returns-in-Refused
+returns-in-Refused c =
+    let v = c.loop-i.invariant in
+    let r = c.carry-c.result in
+    let n = c.taken-n in
+    let m = stops _ _ _ _ (number_of c.in-Refused.why) (sym c.carry-c.ensures ∙ ap (λ (f : Fate). fate_of f r.track) c.in-Refused.is) in
+    refuses (all_stop c.args.s (to_z w64 (of_z w64 c.args.time)) n.result v.2 n.ensures _
+    (passed_stops _ _ c.args.s.tracks c.loop-i.tracks n.result c.loop-i.i c.loop-i.kept no_track _ _ v.4 c.loop-i-test.true (omega arith) m.goes_on m.moves)
+    ∙ ap (moved_tracks c.args.s) (to_z-of_z c.ranges.time))
+
+pub loop-i-preserved : goal.loop-i-preserved
+loop-i-preserved c =
+    let v = c.loop-i.invariant in
+    let r = c.carry-c.result in
+    let m = keeps _ _ _ _ _ (sym c.carry-c.ensures ∙ ap (λ (f : Fate). fate_of f r.track) c.in-Kept.is) in (
+      search rules,
+      v.1,
+      v.2,
+      omega arith,
+      passed_keep _ _ _ _ _ _ no_track _ _ v.4 (omega arith) m.goes_on m.moves,
+    )
+
+pub returns : goal.returns
+returns c =
+    let v = c.loop-i.invariant in
+    let n = c.taken-n in
+    carries_out (all_moved c.args.s (to_z w64 (of_z w64 c.args.time)) n.result v.2 n.ensures c.loop-i.tracks c.loop-i.i c.loop-i.kept v.4 (omega arith)
+    ∙ ap (moved_tracks c.args.s) (to_z-of_z c.ranges.time))

@@ -1,0 +1,17 @@
+use mathlib.Core.Path.{◌≡◌}
+use Prim.Native.Nat.{◌≤◌, ◌-◌}
+use lib.ListN.{length}
+use Rattle.calls.specs.Predict.{continued, moved}
+use Rattle.moving.proofs.Passing.{Passed}
+use Rattle.moving.proofs.move_tracks.Given as goal
+
+abbrev pub invariant-loop-i : goal.invariant-loop-i
+invariant-loop-i l =
+    (l.i ≤ l.n)
+    × (l.n ≤ 64)
+    × (length l.initial.tracks ≡ 64)
+    × (l.kept ≤ l.i)
+    × Passed (continued l.life l.time) (moved l.density l.time) l.initial.tracks l.tracks l.i l.kept
+
+abbrev pub decreases-loop-i : goal.decreases-loop-i
+decreases-loop-i l = l.n - l.i
