@@ -1,11 +1,13 @@
 // What the births and the report are told of the pairing.
+#![tactic(auto)]
+
 ghost use Rattle.std.specs.Prelude.{◌≡◌, [], ◌≤◌, length, take, replicate};
 ghost use Rattle.association.specs.Told.{mate_of, alone, PairsTold, unmatched_of, Listed};
 
 use types::{MAX_OBSERVATIONS, MAX_TRACKS};
 
 // Whether a track took the detection, and which, at what cost.
-#[derive(Drop)]
+#[derive(Clone, Copy)]
 pub struct Pair {
     pub taken: bool,
     pub track: u64,
@@ -13,7 +15,7 @@ pub struct Pair {
 }
 
 // Numbers of tracks in the front of an array.
-#[derive(Drop)]
+#[derive(Clone, Copy)]
 pub struct Unmatched {
     pub ids: [u64; MAX_TRACKS],
     pub count: usize,

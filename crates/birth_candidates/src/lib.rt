@@ -1,4 +1,6 @@
 // Birth candidates by themselves, so that what stands behind their count in the state is left alone.
+#![tactic(auto)]
+
 ghost use Rattle.std.specs.Prelude.{◌≡◌, [], ◌∷◌, ◌++◌, ℕ, ◌≤◌, ◌<◌, min, Float, take, set, get_or};
 ghost use Rattle.std.proofs.Math.Option.{Option, none, some};
 ghost use Rattle.number.specs.Reply.{given};
@@ -13,20 +15,20 @@ use types::MAX_CANDIDATES;
 use types::refusal::{Outcome, Refusal};
 use types::tracker::BirthCandidate;
 
-#[derive(Drop)]
+#[derive(Clone, Copy)]
 pub struct Candidates {
     pub items: [BirthCandidate; MAX_CANDIDATES],
     pub count: usize,
 }
 
-#[derive(Drop)]
+#[derive(Clone, Copy)]
 pub struct Aged {
     pub outcome: Outcome,
     pub candidates: Candidates,
 }
 
 // Whether a candidate stays, or its age overflows.
-#[derive(Drop)]
+#[derive(Clone, Copy)]
 enum Stay {
     Kept,
     Dropped,
@@ -34,21 +36,21 @@ enum Stay {
 }
 
 // What a sighting makes of the candidates: it waits, begins a track with so many sightings, or there is no room for it.
-#[derive(Drop)]
+#[derive(Clone, Copy)]
 pub enum Sighting {
     Waits,
     Begins(u32),
     Full,
 }
 
-#[derive(Drop)]
+#[derive(Clone, Copy)]
 pub struct Sighted {
     pub sighting: Sighting,
     pub candidates: Candidates,
 }
 
 // Where the nearest candidate stands; 64 and the radius for none.
-#[derive(Drop)]
+#[derive(Clone, Copy)]
 struct Near {
     at: usize,
     distance: f64,

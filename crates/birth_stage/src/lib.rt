@@ -1,4 +1,6 @@
 // The births of a batch: one walk over its detections in order, which are taken, and what becomes of the others.
+#![tactic(auto)]
+
 ghost use Rattle.std.specs.Prelude.{◌≡◌};
 ghost use Rattle.types.specs.States.{state_of, over_state};
 ghost use Rattle.calls.specs.Births.{updated, spawned, unmatched, births_of, with_candidates};
@@ -21,7 +23,7 @@ use types::{MAX_OBSERVATIONS, MAX_SEQUENCES, MAX_TRACKS};
 
 pub mod one;
 
-#[derive(Drop)]
+#[derive(Clone, Copy)]
 pub struct Walked {
     pub outcome: Outcome,
     pub tracker: Cartesian3DTracker,

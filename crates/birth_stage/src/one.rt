@@ -16,7 +16,7 @@ use types::refusal::{Outcome, Refusal};
 use types::track::Track3D;
 
 // What becomes of a detection that no track took.
-#[derive(Drop)]
+#[derive(Clone, Copy)]
 pub enum Fated {
     Alone,
     Begun,
@@ -24,7 +24,7 @@ pub enum Fated {
 }
 
 // With the track that it begins, where it does, and the candidates after it.
-#[derive(Drop)]
+#[derive(Clone, Copy)]
 pub struct Considered {
     pub fate: Fated,
     pub track: Track3D,

@@ -1,4 +1,6 @@
 // The pairing stage of a batch: the cost table, the takers of the columns, and what the updates, the births and the report are told of them.
+#![tactic(auto)]
+
 ghost use Rattle.std.specs.Prelude.{◌≡◌, ◌*◌, ◌≤◌, length, take, replicate};
 ghost use Rattle.std.proofs.Math.Option.{some};
 ghost use Rattle.settings.specs.Optional.{i64_of};
@@ -16,7 +18,7 @@ use types::refusal::{Outcome, Refusal};
 use types::{MAX_OBSERVATIONS, MAX_TRACKS};
 
 // The detection of each track, by its place, with 64 for none; the pair of each detection; the numbers of the tracks that took none.
-#[derive(Drop)]
+#[derive(Clone, Copy)]
 pub struct Paired {
     pub outcome: Outcome,
     pub mates: [usize; MAX_TRACKS],

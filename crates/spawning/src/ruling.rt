@@ -17,18 +17,18 @@ use types::track::Track3D;
 use types::tracker::Cartesian3DTracker;
 
 // The place of a confirmed track.
-#[derive(Drop)]
+#[derive(Clone, Copy)]
 pub struct Spot {
     pub position: [f64; 3],
 }
 
-#[derive(Drop)]
+#[derive(Clone, Copy)]
 pub struct Places {
     pub items: [Spot; MAX_TRACKS],
     pub count: usize,
 }
 
-#[derive(Drop)]
+#[derive(Clone, Copy)]
 pub enum Ruling {
     // It begins nothing.
     Passed,

@@ -23,7 +23,7 @@ use Rattle.types.proofs.Overs.{state_over, sequences_again}
 use Rattle.tables.specs.Sequences.{entry, not_before, noted, noted_in, room_for}
 use Rattle.calls.specs.Predict.{at_time}
 use Rattle.calls.specs.Update.{Matched}
-use Rattle.calls.specs.Births.{Fate, Births, remaining, with_candidates, confirmed_places, births_of}
+use Rattle.calls.specs.Births.{Births, remaining, with_candidates, confirmed_places, births_of}
 use Rattle.calls.specs.Process.{Done, associations_from, done_with, finished}
 use Rattle.calls.specs.Run.{state_given}
 use Rattle.calls.specs.Answers.{Answers, report_after}

@@ -1,4 +1,6 @@
 // The stages of a batch, each on the whole tracker.
+#![tactic(auto)]
+
 ghost use Rattle.std.specs.Prelude.{◌≡◌, true, ◌≤◌, take, replicate};
 ghost use Rattle.lists.specs.Lay.{lay};
 ghost use Rattle.number.specs.Reply.{given};
@@ -25,7 +27,7 @@ use types::tracker::Cartesian3DTracker;
 use types::{MAX_CANDIDATES, MAX_OBSERVATIONS, MAX_SEQUENCES, MAX_TRACKS};
 
 // Whether a batch was carried out, the tracker after it, and the report, which is blank beside a refusal.
-#[derive(Drop)]
+#[derive(Clone, Copy)]
 pub struct Reported {
     pub outcome: Outcome,
     pub tracker: Cartesian3DTracker,
@@ -33,7 +35,7 @@ pub struct Reported {
 }
 
 // Whether the pairing and the updates were carried out, the tracker after them, and what the pairing tells.
-#[derive(Drop)]
+#[derive(Clone, Copy)]
 pub struct Matching {
     pub outcome: Outcome,
     pub tracker: Cartesian3DTracker,

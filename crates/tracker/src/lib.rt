@@ -1,4 +1,6 @@
 // The calls on a tracker. Each takes the tracker by value and gives back the one after it, which is the same one where the call is refused.
+#![tactic(auto)]
+
 ghost use Rattle.std.specs.Prelude.{◌≡◌};
 ghost use Rattle.number.specs.Reply.{given};
 ghost use Rattle.types.specs.States.{tracks_of, over_state};
@@ -17,14 +19,14 @@ use types::track::Snapshots;
 use types::tracker::Cartesian3DTracker;
 
 // Whether a call was carried out, and the tracker after it.
-#[derive(Drop)]
+#[derive(Clone, Copy)]
 pub struct Answered {
     pub outcome: Outcome,
     pub tracker: Cartesian3DTracker,
 }
 
 // Whether the settings were accepted, and a tracker under them.
-#[derive(Drop)]
+#[derive(Clone, Copy)]
 pub struct Created {
     pub outcome: Outcome,
     pub tracker: Cartesian3DTracker,

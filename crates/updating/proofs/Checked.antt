@@ -3,10 +3,8 @@ use mathlib.Core.Path.{◌≡◌, refl, sym, ap}
 use mathlib.Core.Bool.{true, ◌&&◌}
 use mathlib.Core.List.{List, [], ◌∷◌}
 use mathlib.Core.Option.{Option, none, some}
-use Prim.Native.Nat.{ℕ, zero, suc, ◌<◌}
-use native.Mathlib.Omega.{arith}
+use Prim.Native.Nat.{ℕ, suc}
 use lib.IntN.{ℤ}
-use lib.ListN.{length, get_or}
 use Rattle.number.specs.Reply.{Reply, given, and_then}
 use Rattle.number.proofs.Zeros.{both}
 use Rattle.settings.specs.declared.Cartesian3DTrackerConfig.{Cartesian3DTrackerConfig}
@@ -18,14 +16,11 @@ use Rattle.filter.proofs.Split.{checked_position}
 use Rattle.detections.specs.declared.Detection.{Detection}
 use Rattle.detections.specs.Detection.{finite_velocity, detection_reply}
 use Rattle.types.specs.declared.track.Track3D.{Track3D}
-use Rattle.batches.specs.Check.{detections_reply}
-use Rattle.types.specs.declared.tracker.Cartesian3DTracker.{Cartesian3DTracker}
 use Rattle.types.specs.Track.{with_filter}
-use Rattle.types.specs.States.{tracks_of, over_tracks}
 use Rattle.calls.specs.Update.{Moving, moving, velocity_updated, filter_updated, updated_with, updated_by, updates}
 use Rattle.lists.specs.Each.{each_at}
-use Rattle.number.proofs.Replies.{bound, past_test}
-use Rattle.updating.specs.Updates.{update_of, corrected, observed_as, updated_as, updated_or_not, updated_tracks}
+use Rattle.number.proofs.Replies.{past_test}
+use Rattle.updating.specs.Updates.{update_of, corrected, observed_as, updated_as, updated_or_not}
 
 module _ (d : Detection) (ok : detection_reply d ≡ given tt) where
   passed : ((finite_vector 3 d.position && finite_velocity d.velocity) ≡ true) × (validated 3 (rows_of 3 3 d.covariance) ≡ given tt)

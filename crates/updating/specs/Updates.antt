@@ -1,5 +1,5 @@
 -- One track and the detection that it is paired with, for a detection that has passed its checks: `updatedWith` of calls without them (`updated-checked` of proofs/Checked.antt says so).
-use Rattle.std.specs.Prelude.{ℕ, cond, List, [], ltb, ℤ, get_or}
+use Rattle.std.specs.Prelude.{ℕ, ℤ}
 use Rattle.std.proofs.Math.Option.{Option, none, some}
 use Rattle.number.specs.Reply.{Reply, given, and_then}
 use Rattle.settings.specs.Optional.{f64_of}
@@ -7,9 +7,6 @@ use Rattle.settings.specs.declared.Cartesian3DTrackerConfig.{Cartesian3DTrackerC
 use Rattle.filter.specs.declared.KalmanFilter.{KalmanFilter}
 use Rattle.filter.specs.Filter.{expected_of, updated_from}
 use Rattle.detections.specs.declared.Class.{Class}
-use Rattle.detections.specs.declared.Class.TheVariants.{Unknown}
-use Rattle.detections.specs.declared.Velocity.TheVariants.{Unmeasured}
-use Rattle.detections.specs.declared.Score.TheVariants.{Unscored}
 use Rattle.detections.specs.declared.Detection.{Detection}
 use Rattle.types.specs.declared.track.Track3D.{Track3D}
 use Rattle.types.specs.declared.tracker.Cartesian3DTracker.{Cartesian3DTracker}

@@ -1,4 +1,6 @@
 // What a detection does to the track that it is paired with.
+#![tactic(auto)]
+
 ghost use Rattle.std.specs.Prelude.{◌≡◌, cond};
 ghost use Rattle.std.proofs.Math.Option.{none, some};
 ghost use Rattle.number.specs.Reply.{given, and_then};
@@ -23,7 +25,7 @@ use types::tracker::Cartesian3DTracker;
 use types::{MAX_OBSERVATIONS, MAX_TRACKS};
 
 // What of the batch and the settings an update depends on.
-#[derive(Drop)]
+#[derive(Clone, Copy)]
 pub struct Update {
     pub time: i64,
     pub sensor: u32,

@@ -1,0 +1,38 @@
+-- `matching::assign_recent_first` meets its contract: the flags are the front of the array that the cascade reads. Assumes nothing.
+use mathlib.Core.Bool.{false}
+use mathlib.Core.List.{List}
+use mathlib.Core.Path.{◌≡◌, ap, ◌∙◌}
+use Prim.Native.Nat.{ℕ, ◌≤◌}
+use lib.ListN.{length, take, replicate, length-replicate}
+use lib.Seq.{length-take-le}
+use mir.Facts.{to_z-of_z}
+use native.Mathlib.Omega.{arith}
+use borrow.Author.Rules.{rules}
+use Rattle.lists.proofs.Laying.{length_mapped}
+use Rattle.matching.proofs.Taking.{laid_long, recent_done, recent_stops}
+use Rattle.matching.proofs.assign_recent_first.Goals as goal
+
+-- the takers' array is whole
+sized : (l : List ℕ) → l ≡ replicate 64 64 → length l ≡ 64
+sized l e = ap length e ∙ length-replicate {A = ℕ} 64 64
+
+rows_long : {A : Type 0} (rows : List A) (n : ℕ) → length rows ≡ 64 → n ≤ 64 → length (take n rows) ≡ n
+rows_long rows n e h = length-take-le n rows (omega arith)
+
+pub pair_cascade-requires : goal.pair_cascade-requires
+pair_cascade-requires c =
+    (c.requires.0, c.requires.1, c.requires.2, laid_long _ _ _ _ _ c.mark_recent.ensures, c.requires.3, sized _ c.requires.3)
+
+pub returns-in-Done : goal.returns-in-Done
+returns-in-Done c =
+    let long : length c.args.rows ≡ 64 = search (rules, length_mapped) in
+    recent_done c.args.window c.args.time _ c.args.n (replicate 64 false) _ (rows_long c.args.rows c.args.n long c.requires.0) c.requires.0 c.mark_recent.result
+    (rw (to_z-of_z c.ranges.time, to_z-of_z c.ranges.window) at c.mark_recent.ensures)
+    c.args.gate _ c.args.m c.in-Done.is _ _ _ c.pair_cascade.ensures
+
+pub returns-in-Refused : goal.returns-in-Refused
+returns-in-Refused c =
+    let long : length c.args.rows ≡ 64 = search (rules, length_mapped) in
+    recent_stops c.args.window c.args.time _ c.args.n (replicate 64 false) _ (rows_long c.args.rows c.args.n long c.requires.0) c.requires.0 c.mark_recent.result
+    (rw (to_z-of_z c.ranges.time, to_z-of_z c.ranges.window) at c.mark_recent.ensures)
+    c.args.gate _ c.args.m _ c.in-Refused.is _ (sized _ c.requires.3)

@@ -1,0 +1,4 @@
+use Rattle.matching.proofs.refuse.Goals as goal
+
+pub returns : goal.returns
+returns c = cc

@@ -1,0 +1,46 @@
+-- The loop keeps `Stepped`: the tracks before i are updated in place. A track with a mate takes one law, one without another, a refusal ends it.
+use native.Mathlib.Omega.{arith}
+use borrow.Author.Rules.{rules}
+use Rattle.lists.proofs.Laying.{length_mapped}
+use Rattle.tables.proofs.Stores.{no_track}
+use Rattle.lists.proofs.Stepping.{stepped_start}
+use Rattle.moving.proofs.Tracks.{step_given, step_refuses, carries_out, refuses}
+use Rattle.association.specs.Told.{mate_of}
+use Rattle.updating.proofs.All.{has_mate, no_mate, as_it_was, updated, stops, all_stop, all_updated}
+use Rattle.updating.proofs.update_tracks.Goals as goal
+
+pub loop-i-init : goal.loop-i-init
+loop-i-init c = (search rules, omega (arith, c.taken-n.ensures), search (rules, length_mapped), stepped_start _ _)
+
+pub returns-in-Refused : goal.returns-in-Refused
+returns-in-Refused c =
+    let n = c.taken-n in
+    let a = c.args in
+    let v = c.loop-i.invariant in
+    refuses (all_stop a.s (mate_of a.mates a.observations) a.u n.result v.2 n.ensures _
+    (stops a.u (mate_of a.mates a.observations) a.s.tracks c.loop-i.tracks c.loop-i.i no_track v.3 n.result _ _ c.loop-i-test.true (omega arith)
+    (has_mate a.mates a.observations c.loop-i.i c.if-j-lt-MAX_OBSERVATIONS.true)
+    (step_refuses c.update_track-step.ensures c.in-Refused.why c.in-Refused.is)))
+
+pub loop-i-preserved-in-Done : goal.loop-i-preserved-in-Done
+loop-i-preserved-in-Done c =
+    let a = c.args in
+    let v = c.loop-i.invariant in (
+      search rules,
+      v.1,
+      v.2,
+      updated a.u (mate_of a.mates a.observations) _ _ c.loop-i.i no_track v.3 _ _ (omega arith) (has_mate a.mates a.observations c.loop-i.i c.if-j-lt-MAX_OBSERVATIONS.true) (step_given c.update_track-step.ensures c.in-Done.is),
+    )
+
+pub loop-i-preserved : goal.loop-i-preserved
+loop-i-preserved c =
+    let a = c.args in
+    let v = c.loop-i.invariant in
+    (search rules, v.1, v.2, as_it_was a.u (mate_of a.mates a.observations) _ _ c.loop-i.i no_track v.3 (omega arith) (no_mate a.mates a.observations c.loop-i.i c.if-j-lt-MAX_OBSERVATIONS.false))
+
+pub returns : goal.returns
+returns c =
+    let n = c.taken-n in
+    let a = c.args in
+    let v = c.loop-i.invariant in
+    carries_out (all_updated a.s _ a.u n.result v.2 n.ensures c.loop-i.tracks c.loop-i.i v.3 (omega arith))
