@@ -1,6 +1,6 @@
 /* Pikowhanu for C programs: a square root, the pairing of least total, and the Cartesian 3D tracker. x86-64 Linux.
  *
- * Link target/staticlib/libpikowhanu.a, which `rt staticlib pikowhanu` makes. It asks for memcpy, memmove and memset and for nothing else:
+ * Link target/staticlib/libpikowhanu.a, which `tools/built archive pikowhanu` makes. It asks for memcpy, memmove and memset and for nothing else:
  * no heap, no globals, no locks, no I/O, no maths library.
  *
  * What holds for every call:
