@@ -23,7 +23,7 @@ use Rattle.types.specs.declared.tracker.BirthCandidate.{BirthCandidate}
 use Rattle.types.specs.Refusals.{number_of}
 use Rattle.types.specs.Track.{with_mark}
 use Rattle.types.specs.Batches.{whole_report}
-use Rattle.types.specs.States.{state_of, sequences_of, candidates_of, time_of}
+use Rattle.types.specs.States.{State, state_of, sequences_of, candidates_of, time_of}
 use Rattle.batches.specs.Check.{batch_reply}
 use Rattle.calls.specs.Predict.{at_time}
 use Rattle.calls.specs.Births.{remaining, with_candidates, confirmed_places}
@@ -110,6 +110,10 @@ pub front_more : (m : List PkTrack) (k : ℕ) (y : Track3D) → k < length m →
 front_more m k y h = ap (map track_of) (take_set m k (track_to y) h) ∙ map_append track_of (take k m) (track_to y ∷ []) ∙ ap (λ (x : Track3D). map track_of (take k m) ++ (x ∷ [])) (track_back y)
 
 -- ---- what the births start from
+
+-- the tracks in front of the record, and the candidates that stay
+abbrev pub start_at : PkTracker → ℕ → ℕ → ℤ → List BirthCandidate → State
+start_at t n id now candidates = record { tracks = map track_of (take n t.tracks); next = id; last = some now; sequences = take t.sequence_count t.sequences; candidates = candidates }
 
 pub start_is : (t x : PkTracker) (n : ℕ) (now : ℤ) (us : List Track3D) (cs : List BirthCandidate) → x ≡ with_pk_tracks t x.tracks → map track_of (take n x.tracks) ≡ us
     → record { tracks = map track_of (take n x.tracks); next = x.next_track_id; last = some now; sequences = take x.sequence_count x.sequences; candidates = cs } ≡ with_candidates cs (at_time now us (pk_state t))

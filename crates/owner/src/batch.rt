@@ -21,7 +21,7 @@ use types::refusal::{Outcome, Refusal};
 use types::{MAX_OBSERVATIONS, MAX_TRACKS};
 
 // Whether a batch was carried out, the record after it, and the report; where it is refused the record counts for nothing.
-#[derive(Drop)]
+#[derive(Clone, Copy)]
 pub struct Ran {
     pub tracker: PkTracker,
     pub outcome: Outcome,

@@ -1,4 +1,6 @@
 // The calls on the record that a C program holds, track by track in the record itself: each track is read, moved and stored again, and no table is converted.
+#![tactic(auto)]
+
 ghost use Rattle.std.specs.Prelude.{◌≡◌, cond, min, eqb};
 ghost use Rattle.types.specs.Refusals.{number_of};
 ghost use Rattle.types.specs.States.{time_of};
@@ -17,7 +19,7 @@ use types::{MAX_CANDIDATES, MAX_SEQUENCES, MAX_TRACKS};
 pub mod batch;
 
 // The number of a call's answer, and the record after it; where the number is not 0 the record counts for nothing.
-#[derive(Drop)]
+#[derive(Clone, Copy)]
 pub struct Ran {
     pub tracker: PkTracker,
     pub code: u32,
