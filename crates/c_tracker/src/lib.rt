@@ -1,4 +1,6 @@
 // The tracker's calls over the records that a C program holds, by value: each answers 01's number, and beside it the record as it is after the call.
+#![tactic(auto)]
+
 ghost use Rattle.std.specs.Prelude.{◌≡◌};
 ghost use Rattle.number.specs.Reply.{code_of};
 ghost use Rattle.settings.specs.Settings.{default_settings, settings_reply};
@@ -15,14 +17,14 @@ use types::refusal::Outcome;
 use types::tracker::Cartesian3DTracker;
 
 // The tracker after a call, and 0 or the number of the refusal.
-#[derive(Drop)]
+#[derive(Clone, Copy)]
 pub struct Answer {
     pub tracker: PkTracker,
     pub code: u32,
 }
 
 // The tracker after a batch, and the report, with the number in it.
-#[derive(Drop)]
+#[derive(Clone, Copy)]
 pub struct Processed {
     pub tracker: PkTracker,
     pub report: PkReport,

@@ -7,9 +7,10 @@ use lifecycle::LifecycleConfig;
 use settings::frame::FrameName;
 use settings::optional::{OptionalF64, OptionalI64, OptionalU32};
 use settings::{Cartesian3DTrackerConfig, Validation};
+use std::io;
 
 // The fields in their order, one number each, but that a frame is its length and four numbers of eight bytes.
-#[derive(Drop)]
+#[derive(Clone, Copy)]
 pub struct Loaded {
     numbers: [u64; 21],
 }
@@ -139,17 +140,25 @@ fn load(l: Loaded, place: u64, a: u64, b: u64, c: u64) -> Loaded {
 }
 
 // One call: see main.rt.
-pub fn run(l: Loaded, letter: u8, first: u64, second: u64, third: u64, fourth: u64) -> Loaded {
+pub fn run(
+    rt: &impl Print,
+    l: Loaded,
+    letter: u8,
+    first: u64,
+    second: u64,
+    third: u64,
+    fourth: u64,
+) -> io::Result<Loaded> {
     let numbers = l.numbers;
     if letter == b'T' {
-        load(l, first, second, third, fourth)
+        Ok(load(l, first, second, third, fourth))
     } else if letter == b'X' {
         let v = settings_of(numbers, first).validate();
-        super::wire::write(b'X', field_of(v), 0, 0, 0);
-        l
+        super::wire::write(rt, b'X', field_of(v), 0, 0, 0)?;
+        Ok(l)
     } else {
-        write_settings(Cartesian3DTrackerConfig::default());
-        l
+        write_settings(rt, Cartesian3DTrackerConfig::default())?;
+        Ok(l)
     }
 }
 
@@ -196,42 +205,45 @@ fn set_u32(x: OptionalU32) -> u64 {
 }
 
 // Writes settings in six lines: the numbers, and which optional fields are set.
-fn write_settings(c: Cartesian3DTrackerConfig) {
-    write_common(c);
-    write_tracker(c);
+fn write_settings(rt: &impl Print, c: Cartesian3DTrackerConfig) -> io::Result<()> {
+    write_common(rt, c)?;
+    write_tracker(rt, c)
 }
 
 // The fields up to the frame's name.
-fn write_common(c: Cartesian3DTrackerConfig) {
+fn write_common(rt: &impl Print, c: Cartesian3DTrackerConfig) -> io::Result<()> {
     let life = c.lifecycle;
     let threshold = c.new_track_score_threshold;
     let frame = c.frame_id;
     let bytes = frame.bytes;
     super::wire::write(
+        rt,
         b'Z',
         life.confirm_min_observation_times as u64,
         bits(life.tentative_timeout_ns),
         bits(life.confirmed_to_lost_ns),
         bits(life.lost_to_delete_ns),
-    );
+    )?;
     super::wire::write(
+        rt,
         b'Z',
         bits_of_f64(threshold),
         c.max_contributing_sensors as u64,
         frame.length as u64,
         gathered(bytes, 0),
-    );
+    )?;
     super::wire::write(
+        rt,
         b'Z',
         gathered(bytes, 8),
         gathered(bytes, 16),
         gathered(bytes, 24),
         bits_of(c.accel_spectral_density),
-    );
+    )
 }
 
 // The fields behind the frame's name but one, and which are set.
-fn write_tracker(c: Cartesian3DTrackerConfig) {
+fn write_tracker(rt: &impl Print, c: Cartesian3DTrackerConfig) -> io::Result<()> {
     let threshold = c.new_track_score_threshold;
     let window = c.recent_track_window_ns;
     let distance = c.min_birth_distance_m;
@@ -243,18 +255,20 @@ fn write_tracker(c: Cartesian3DTrackerConfig) {
         + set_u32(persistence) % 2 * 8
         + set_f64(deviation) % 2 * 16;
     super::wire::write(
+        rt,
         b'Z',
         bits_of(c.initial_velocity_variance),
         bits_of(c.gate_squared_mahalanobis),
         bits_of(c.class_prior_penalty),
         bits_of_i64(window),
-    );
+    )?;
     super::wire::write(
+        rt,
         b'Z',
         bits_of_f64(distance),
         bits_of_u32(persistence),
         bits_of(c.birth_candidate_radius_m),
         bits(c.birth_candidate_timeout_ns),
-    );
-    super::wire::write(b'Z', bits_of_f64(deviation), set, 0, 0);
+    )?;
+    super::wire::write(rt, b'Z', bits_of_f64(deviation), set, 0, 0)
 }

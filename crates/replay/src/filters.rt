@@ -2,9 +2,10 @@
 use detections::Velocity;
 use filter::{KalmanFilter, Outcome, Step};
 use math::linalg::{Distance, Refusal};
+use std::io;
 
 // A filter, and numbers that calls take: 6 of a state, 36 of its covariance, 3 of a position, 9 of its covariance, 2 of a velocity and 1 where there is one.
-#[derive(Drop)]
+#[derive(Clone, Copy)]
 pub struct Filters {
     filter: KalmanFilter,
     numbers: [f64; 57],
@@ -88,44 +89,38 @@ fn number_at(f: KalmanFilter, i: usize) -> u64 {
 }
 
 // Writes a filter in eleven lines.
-fn write_filter(f: KalmanFilter) {
+fn write_filter(rt: &impl Print, f: KalmanFilter) -> io::Result<()> {
     let mut i: usize = 0;
     while i < 44 {
         super::wire::write(
+            rt,
             b'V',
             number_at(f, i),
             number_at(f, i + 1),
             number_at(f, i + 2),
             number_at(f, i + 3),
-        );
+        )?;
         i += 4;
     }
+    Ok(())
 }
 
 // Writes what a step answers and leaves.
-fn with_step(numbers: [f64; 57], s: Step) -> Filters {
+fn with_step(rt: &impl Print, numbers: [f64; 57], s: Step) -> io::Result<Filters> {
     let outcome = s.outcome;
     let filter = s.filter;
     match outcome {
-        Outcome::Done => {
-            super::wire::write(b'F', 0, 0, 0, 0);
-        }
-        Outcome::Refused(why) => {
-            super::wire::write(b'F', code_of(why), 0, 0, 0);
-        }
+        Outcome::Done => super::wire::write(rt, b'F', 0, 0, 0, 0)?,
+        Outcome::Refused(why) => super::wire::write(rt, b'F', code_of(why), 0, 0, 0)?,
     }
-    write_filter(filter);
-    Filters { filter, numbers }
+    write_filter(rt, filter)?;
+    Ok(Filters { filter, numbers })
 }
 
-fn write_distance(d: Distance) {
+fn write_distance(rt: &impl Print, d: Distance) -> io::Result<()> {
     match d {
-        Distance::Squared(x) => {
-            super::wire::write(b'E', 0, super::floats::bits_of(x), 0, 0);
-        }
-        Distance::Refused(why) => {
-            super::wire::write(b'E', code_of(why), 0, 0, 0);
-        }
+        Distance::Squared(x) => super::wire::write(rt, b'E', 0, super::floats::bits_of(x), 0, 0),
+        Distance::Refused(why) => super::wire::write(rt, b'E', code_of(why), 0, 0, 0),
     }
 }
 
@@ -141,30 +136,41 @@ fn load(r: Filters, place: u64, a: u64, b: u64, c: u64) -> Filters {
 }
 
 // One call: see main.rt.
-pub fn run(r: Filters, letter: u8, first: u64, second: u64, third: u64, fourth: u64) -> Filters {
+pub fn run(
+    rt: &impl Print,
+    r: Filters,
+    letter: u8,
+    first: u64,
+    second: u64,
+    third: u64,
+    fourth: u64,
+) -> io::Result<Filters> {
     let filter = r.filter;
     let numbers = r.numbers;
     let a = super::floats::number_of(first);
     let b = super::floats::number_of(second);
     let c = super::floats::number_of(third);
     if letter == b'V' {
-        load(r, first, second, third, fourth)
+        Ok(load(r, first, second, third, fourth))
     } else if letter == b'K' {
         with_step(
+            rt,
             numbers,
             filter::create(state_of(numbers), covariance_of(numbers)),
         )
     } else if letter == b'P' {
-        with_step(numbers, filter::predict(filter, a, b))
+        with_step(rt, numbers, filter::predict(filter, a, b))
     } else if letter == b'U' {
         with_step(
+            rt,
             numbers,
             filter::update_position(filter, position_of(numbers), noise_of(numbers)),
         )
     } else if letter == b'W' {
-        with_step(numbers, filter::update_velocity(filter, [a, b], c))
+        with_step(rt, numbers, filter::update_velocity(filter, [a, b], c))
     } else if super::pairs::is_pairs(letter) {
         super::pairs::run(
+            rt,
             filter,
             position_of(numbers),
             noise_of(numbers),
@@ -172,14 +178,13 @@ pub fn run(r: Filters, letter: u8, first: u64, second: u64, third: u64, fourth: 
             letter,
             [a, b, c],
             fourth,
-        );
-        r
+        )?;
+        Ok(r)
     } else {
-        write_distance(filter::squared_mahalanobis(
-            filter,
-            position_of(numbers),
-            noise_of(numbers),
-        ));
-        r
+        write_distance(
+            rt,
+            filter::squared_mahalanobis(filter, position_of(numbers), noise_of(numbers)),
+        )?;
+        Ok(r)
     }
 }

@@ -1,6 +1,8 @@
 // Lines of the program `assign`, loaded by some calls, and their answers.
 ghost use Rattle.std.specs.Prelude.{◌<◌, ◌≤◌};
 
+use std::io;
+
 // One byte, if there is room; how many are loaded then.
 fn push(input: &mut [u8; 16416], loaded: usize, byte: u8) -> usize {
     if loaded < 16416 {
@@ -42,32 +44,35 @@ fn number_at(output: &[u8; 1024], at: usize) -> u64
 }
 
 // Writes the first n bytes, 32 to a line.
-fn write_bytes(output: &[u8; 1024], n: usize) {
+fn write_bytes(rt: &impl Print, output: &[u8; 1024], n: usize) -> io::Result<()> {
     for i in 0..32usize {
         if i * 32 < n {
             super::wire::write(
+                rt,
                 b'I',
                 number_at(output, i * 32),
                 number_at(output, i * 32 + 8),
                 number_at(output, i * 32 + 16),
                 number_at(output, i * 32 + 24),
-            );
+            )?;
             continue;
         }
     }
+    Ok(())
 }
 
 // The answer to the line of the first bytes, as many as `length` says.
-fn answer(input: &[u8], length: u64) {
+fn answer(rt: &impl Print, input: &[u8], length: u64) -> io::Result<()> {
     let end = super::wire::at_most(length, input.len());
     let mut output = [0u8; 1024];
     let n = line::answer(&input[..end], &mut output);
-    super::wire::write(b'Y', n as u64, 0, 0, 0);
-    write_bytes(&output, n);
+    super::wire::write(rt, b'Y', n as u64, 0, 0, 0)?;
+    write_bytes(rt, &output, n)
 }
 
 // One call: see main.rt. How many bytes are loaded then.
 pub fn run(
+    rt: &impl Print,
     input: &mut [u8; 16416],
     loaded: usize,
     letter: u8,
@@ -75,14 +80,14 @@ pub fn run(
     second: u64,
     third: u64,
     fourth: u64,
-) -> usize {
+) -> io::Result<usize> {
     if letter == b'I' {
         let one = push_number(input, loaded, first);
         let two = push_number(input, one, second);
         let three = push_number(input, two, third);
-        push_number(input, three, fourth)
+        Ok(push_number(input, three, fourth))
     } else {
-        answer(input, first);
-        0
+        answer(rt, input, first)?;
+        Ok(0)
     }
 }

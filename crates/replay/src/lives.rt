@@ -1,8 +1,9 @@
 // Lifecycles and lists of sensors, by calls.
 use lifecycle::sensors::Sensors;
 use lifecycle::{LifecycleConfig, Observation, TrackLifecycle, TrackLifecycleState, Verdict};
+use std::io;
 
-#[derive(Drop)]
+#[derive(Clone, Copy)]
 pub struct Lives {
     life: TrackLifecycle,
     config: LifecycleConfig,
@@ -69,18 +70,19 @@ fn present(o: Observation) -> u64 {
     }
 }
 
-fn write_life(l: TrackLifecycle) {
+fn write_life(rt: &impl Print, l: TrackLifecycle) -> io::Result<()> {
     let state = l.state;
     let seen = l.last_observation;
     let counted = l.last_counted;
     let flags = present(seen) % 2 * 4294967296 + present(counted) % 2 * 8589934592;
     super::wire::write(
+        rt,
         letter_of(state),
         bits(l.created_at),
         time_of(seen),
         time_of(counted),
         (l.observation_times as u64) + flags,
-    );
+    )
 }
 
 // The sensor at i, or 2^32 past the end.
@@ -92,59 +94,63 @@ fn sensor_at(s: Sensors, i: usize) -> u64 {
     }
 }
 
-fn write_sensors(s: Sensors) {
+fn write_sensors(rt: &impl Print, s: Sensors) -> io::Result<()> {
     super::wire::write(
+        rt,
         b'S',
         sensor_at(s, 0),
         sensor_at(s, 1),
         sensor_at(s, 2),
         sensor_at(s, 3),
-    );
+    )?;
     super::wire::write(
+        rt,
         b'S',
         sensor_at(s, 4),
         sensor_at(s, 5),
         sensor_at(s, 6),
         sensor_at(s, 7),
-    );
+    )?;
     super::wire::write(
+        rt,
         b'S',
         sensor_at(s, 8),
         sensor_at(s, 9),
         sensor_at(s, 10),
         sensor_at(s, 11),
-    );
+    )?;
     super::wire::write(
+        rt,
         b'S',
         sensor_at(s, 12),
         sensor_at(s, 13),
         sensor_at(s, 14),
         sensor_at(s, 15),
-    );
+    )
 }
 
-fn with_life(r: Lives, life: TrackLifecycle) -> Lives {
-    write_life(life);
+fn with_life(rt: &impl Print, r: Lives, life: TrackLifecycle) -> io::Result<Lives> {
+    write_life(rt, life)?;
     let config = r.config;
     let sensors = r.sensors;
-    Lives {
+    Ok(Lives {
         life,
         config,
         sensors,
         limit: r.limit,
-    }
+    })
 }
 
-fn with_sensors(r: Lives, sensors: Sensors, limit: usize) -> Lives {
-    write_sensors(sensors);
+fn with_sensors(rt: &impl Print, r: Lives, sensors: Sensors, limit: usize) -> io::Result<Lives> {
+    write_sensors(rt, sensors)?;
     let config = r.config;
     let life = r.life;
-    Lives {
+    Ok(Lives {
         life,
         config,
         sensors,
         limit,
-    }
+    })
 }
 
 fn with_config(r: Lives, config: LifecycleConfig) -> Lives {
@@ -159,27 +165,36 @@ fn with_config(r: Lives, config: LifecycleConfig) -> Lives {
 }
 
 // One call on the life.
-fn run_life(r: Lives, letter: u8, first: u64) -> Lives {
+fn run_life(rt: &impl Print, r: Lives, letter: u8, first: u64) -> io::Result<Lives> {
     let life = r.life;
     let config = r.config;
     if letter == b'N' {
-        with_life(r, TrackLifecycle::new(signed(first)))
+        with_life(rt, r, TrackLifecycle::new(signed(first)))
     } else if letter == b'R' {
-        with_life(r, lifecycle::registered(life, signed(first), config))
+        with_life(rt, r, lifecycle::registered(life, signed(first), config))
     } else if letter == b'C' {
         with_life(
+            rt,
             r,
             lifecycle::credited(life, (first % 4294967296) as u32, config),
         )
     } else {
         let a = lifecycle::aged(life, signed(first), config);
         let left = a.lifecycle;
-        with_life(r, left)
+        with_life(rt, r, left)
     }
 }
 
 // One call: see main.rt.
-pub fn run(r: Lives, letter: u8, first: u64, second: u64, third: u64, fourth: u64) -> Lives {
+pub fn run(
+    rt: &impl Print,
+    r: Lives,
+    letter: u8,
+    first: u64,
+    second: u64,
+    third: u64,
+    fourth: u64,
+) -> io::Result<Lives> {
     let sensors = r.sensors;
     if letter == b'G' {
         let config = LifecycleConfig {
@@ -188,9 +203,10 @@ pub fn run(r: Lives, letter: u8, first: u64, second: u64, third: u64, fourth: u6
             confirmed_to_lost_ns: signed(second),
             lost_to_delete_ns: signed(third),
         };
-        with_config(r, config)
+        Ok(with_config(r, config))
     } else if letter == b'L' {
         with_sensors(
+            rt,
             r,
             Sensors {
                 ids: [0; 16],
@@ -201,11 +217,12 @@ pub fn run(r: Lives, letter: u8, first: u64, second: u64, third: u64, fourth: u6
     } else if letter == b'S' {
         let limit = r.limit;
         with_sensors(
+            rt,
             r,
             lifecycle::sensors::record_sensor(sensors, (first % 4294967296) as u32, limit),
             limit,
         )
     } else {
-        run_life(r, letter, first)
+        run_life(rt, r, letter, first)
     }
 }

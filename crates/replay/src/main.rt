@@ -24,6 +24,8 @@
 //     column, the rows that are left, the columns that are left, and 2^64 - 1 where they have ended.
 //   I four numbers: 32 bytes of a line of `assign`, eight to a number, the highest first, loaded behind those that are loaded. Answers nothing.
 //   Y length: the line of the first bytes; none is loaded then. Answers Y and how many bytes answer it; then these in lines of I, zeros after the last.
+#![tactic(auto)]
+
 mod checks;
 mod filters;
 mod floats;
@@ -37,8 +39,10 @@ mod wire;
 use checks::Loaded;
 use filters::Filters;
 use lives::Lives;
+use std::io;
+use wire::Input;
 
-#[derive(Drop)]
+#[derive(Clone, Copy)]
 struct State {
     lives: Lives,
     filters: Filters,
@@ -67,12 +71,17 @@ fn is_tables(letter: u8) -> bool {
 }
 
 // Runs one line's call on a table; how many costs are loaded then.
-fn run_table(costs: &mut [f64; 4096], loaded: usize, l: &[u8; 70]) -> usize {
+fn run_table(
+    rt: &impl Print,
+    costs: &mut [f64; 4096],
+    loaded: usize,
+    l: &[u8; 70],
+) -> io::Result<usize> {
     let first = wire::number(l, 2);
     let second = wire::number(l, 19);
     let third = wire::number(l, 36);
     let fourth = wire::number(l, 53);
-    tables::run(costs, loaded, l[0], first, second, third, fourth)
+    tables::run(rt, costs, loaded, l[0], first, second, third, fourth)
 }
 
 // Whether a call is one on a line of `assign`.
@@ -81,16 +90,21 @@ fn is_lines(letter: u8) -> bool {
 }
 
 // Runs one line's call on a line of `assign`; how many bytes are loaded then.
-fn run_line(input: &mut [u8; 16416], loaded: usize, l: &[u8; 70]) -> usize {
+fn run_line(
+    rt: &impl Print,
+    input: &mut [u8; 16416],
+    loaded: usize,
+    l: &[u8; 70],
+) -> io::Result<usize> {
     let first = wire::number(l, 2);
     let second = wire::number(l, 19);
     let third = wire::number(l, 36);
     let fourth = wire::number(l, 53);
-    lines::run(input, loaded, l[0], first, second, third, fourth)
+    lines::run(rt, input, loaded, l[0], first, second, third, fourth)
 }
 
 // Runs one line's other call.
-fn run(state: State, l: &[u8; 70]) -> State {
+fn run(rt: &impl Print, state: State, l: &[u8; 70]) -> io::Result<State> {
     let lives = state.lives;
     let filters = state.filters;
     let checks = state.checks;
@@ -100,30 +114,34 @@ fn run(state: State, l: &[u8; 70]) -> State {
     let third = wire::number(l, 36);
     let fourth = wire::number(l, 53);
     if letter == b'Q' {
-        roots::write(first, second, third, fourth);
-        state
+        roots::write(rt, first, second, third, fourth)?;
+        Ok(state)
     } else if is_filters(letter) {
-        State {
+        let filters = filters::run(rt, filters, letter, first, second, third, fourth)?;
+        Ok(State {
             lives,
-            filters: filters::run(filters, letter, first, second, third, fourth),
+            filters,
             checks,
-        }
+        })
     } else if is_checks(letter) {
-        State {
+        let checks = checks::run(rt, checks, letter, first, second, third, fourth)?;
+        Ok(State {
             lives,
             filters,
-            checks: checks::run(checks, letter, first, second, third, fourth),
-        }
+            checks,
+        })
     } else {
-        State {
-            lives: lives::run(lives, letter, first, second, third, fourth),
+        let lives = lives::run(rt, lives, letter, first, second, third, fourth)?;
+        Ok(State {
+            lives,
             filters,
             checks,
-        }
+        })
     }
 }
 
-fn main() {
+fn main(rt: HostRuntime) -> io::Result<()> {
+    let mut stdin = rt.stdin();
     let mut state = State {
         lives: lives::new(),
         filters: filters::new(),
@@ -134,18 +152,18 @@ fn main() {
     let mut input = [0u8; 16416];
     let mut held = 0usize;
     for _ in 0..1099511627776u64 {
-        let mut l = [0u8; 70];
-        if io::read_full(0, &mut l) < 70 {
+        let Input::Line(l) = wire::read(&mut stdin)? else {
             break;
-        }
+        };
         if is_tables(l[0]) {
-            loaded = run_table(&mut costs, loaded, &l);
+            loaded = run_table(&rt, &mut costs, loaded, &l)?;
             continue;
         }
         if is_lines(l[0]) {
-            held = run_line(&mut input, held, &l);
+            held = run_line(&rt, &mut input, held, &l)?;
             continue;
         }
-        state = run(state, &l);
+        state = run(&rt, state, &l)?;
     }
+    Ok(())
 }

@@ -3,6 +3,7 @@ use detections::pairs::{ClassPrior, PairConfig, Rule, Target, Verdict};
 use detections::{Class, Detection, Score, Velocity};
 use filter::KalmanFilter;
 use math::linalg::Validity;
+use std::io;
 
 // Whether a call is one on a detection.
 pub fn is_pairs(letter: u8) -> bool {
@@ -38,14 +39,17 @@ fn flag(x: bool) -> u64 {
     if x { 1 } else { 0 }
 }
 
-fn write_check(d: Detection) {
+fn write_check(rt: &impl Print, d: Detection) -> io::Result<()> {
     match detections::validate_detection(d) {
-        Validity::Valid => {
-            super::wire::write(b'o', 0, 0, 0, 0);
-        }
-        Validity::Refused(why) => {
-            super::wire::write(b'o', super::filters::code_of(why), 0, 0, 0);
-        }
+        Validity::Valid => super::wire::write(rt, b'o', 0, 0, 0, 0),
+        Validity::Refused(why) => super::wire::write(
+            rt,
+            b'o',
+            super::filters::code_of(why),
+            0,
+            0,
+            0,
+        ),
     }
 }
 
@@ -57,29 +61,40 @@ fn code_of(rule: Rule) -> u64 {
     }
 }
 
-fn write_verdict(v: Verdict) {
+fn write_verdict(rt: &impl Print, v: Verdict) -> io::Result<()> {
     match v {
-        Verdict::Allowed(cost) => {
-            super::wire::write(b'p', 0, 0, super::floats::bits_of(cost), 0);
-        }
-        Verdict::Forbidden(rule) => {
-            super::wire::write(b'p', 0, code_of(rule), 0, 0);
-        }
-        Verdict::Refused(why) => {
-            super::wire::write(b'p', super::filters::code_of(why), 0, 0, 0);
-        }
+        Verdict::Allowed(cost) => super::wire::write(
+            rt,
+            b'p',
+            0,
+            0,
+            super::floats::bits_of(cost),
+            0,
+        ),
+        Verdict::Forbidden(rule) => super::wire::write(rt, b'p', 0, code_of(rule), 0, 0),
+        Verdict::Refused(why) => super::wire::write(
+            rt,
+            b'p',
+            super::filters::code_of(why),
+            0,
+            0,
+            0,
+        ),
     }
 }
 
 // A detection is paired only where it passes its check.
-fn write_pair(t: Target, d: Detection, config: PairConfig) {
+fn write_pair(rt: &impl Print, t: Target, d: Detection, config: PairConfig) -> io::Result<()> {
     match detections::validate_detection(d) {
-        Validity::Valid => {
-            write_verdict(detections::pairs::pair_verdict(t, d, config));
-        }
-        Validity::Refused(why) => {
-            super::wire::write(b'p', super::filters::code_of(why), 0, 0, 0);
-        }
+        Validity::Valid => write_verdict(rt, detections::pairs::pair_verdict(t, d, config)),
+        Validity::Refused(why) => super::wire::write(
+            rt,
+            b'p',
+            super::filters::code_of(why),
+            0,
+            0,
+            0,
+        ),
     }
 }
 
@@ -91,19 +106,28 @@ fn target_of(f: KalmanFilter, labels: u64, confidence: f64) -> Target {
     }
 }
 
-fn write_birth(f: KalmanFilter, z: [f64; 3], score: Score, threshold: f64, radius: f64) {
+fn write_birth(
+    rt: &impl Print,
+    f: KalmanFilter,
+    z: [f64; 3],
+    score: Score,
+    threshold: f64,
+    radius: f64,
+) -> io::Result<()> {
     let place = [f.state[0], f.state[1], f.state[2]];
     super::wire::write(
+        rt,
         b'b',
         flag(detections::births::is_score_below(score, threshold)),
         super::floats::bits_of(detections::births::distance(place, z)),
         flag(detections::births::is_nearer(place, z, radius)),
         0,
-    );
+    )
 }
 
 // One call: see main.rt.
 pub fn run(
+    rt: &impl Print,
     f: KalmanFilter,
     position: [f64; 3],
     covariance: [f64; 9],
@@ -111,7 +135,7 @@ pub fn run(
     letter: u8,
     x: [f64; 3],
     last: u64,
-) {
+) -> io::Result<()> {
     let score = score_of(last, x[0]);
     let d = Detection {
         position,
@@ -121,14 +145,14 @@ pub fn run(
         score,
     };
     if letter == b'o' {
-        write_check(d);
+        write_check(rt, d)
     } else if letter == b'p' {
         let config = PairConfig {
             gate_squared_mahalanobis: x[0],
             class_prior_penalty: x[1],
         };
-        write_pair(target_of(f, last, x[2]), d, config);
+        write_pair(rt, target_of(f, last, x[2]), d, config)
     } else {
-        write_birth(f, position, score, x[1], x[2]);
+        write_birth(rt, f, position, score, x[1], x[2])
     }
 }

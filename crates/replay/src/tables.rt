@@ -1,5 +1,6 @@
 // Cost tables, loaded by some lines, and their assignments.
 use assignment::{Assignment, Outcome};
+use std::io;
 
 // One cost, if there is room; how many are loaded then.
 fn push(costs: &mut [f64; 4096], loaded: usize, bits: u64) -> usize {
@@ -76,30 +77,33 @@ fn add_list(items: &mut [u64; 192], from: usize, list: &[usize; 64], count: usiz
 }
 
 // Writes the first n items, four to a line.
-fn write_items(items: &[u64; 192], n: usize) {
+fn write_items(rt: &impl Print, items: &[u64; 192], n: usize) -> io::Result<()> {
     for i in 0..48usize {
         if i * 4 < n {
             super::wire::write(
+                rt,
                 b'J',
                 items[i * 4],
                 items[i * 4 + 1],
                 items[i * 4 + 2],
                 items[i * 4 + 3],
-            );
+            )?;
             continue;
         }
     }
+    Ok(())
 }
 
-fn write_assignment(code: u64, a: Assignment) {
+fn write_assignment(rt: &impl Print, code: u64, a: Assignment) -> io::Result<()> {
     let mut items = [18446744073709551615u64; 192];
     super::wire::write(
+        rt,
         b'H',
         code,
         a.pair_count as u64,
         a.unmatched_row_count as u64,
         a.unmatched_column_count as u64,
-    );
+    )?;
     let pairs = add_pairs(&mut items, &a.pair_rows, &a.pair_columns, a.pair_count);
     let rows = add_list(&mut items, pairs, &a.unmatched_rows, a.unmatched_row_count);
     let all = add_list(
@@ -108,11 +112,17 @@ fn write_assignment(code: u64, a: Assignment) {
         &a.unmatched_columns,
         a.unmatched_column_count,
     );
-    write_items(&items, all);
+    write_items(rt, &items, all)
 }
 
 // The assignment of the costs that are lent, for a table of so many rows and columns.
-fn pair(costs: &[f64], sides: u64, row_cost: u64, column_cost: u64) {
+fn pair(
+    rt: &impl Print,
+    costs: &[f64],
+    sides: u64,
+    row_cost: u64,
+    column_cost: u64,
+) -> io::Result<()> {
     let answer = assignment::linear_assignment(
         costs,
         (sides / 4294967296) as usize,
@@ -122,17 +132,25 @@ fn pair(costs: &[f64], sides: u64, row_cost: u64, column_cost: u64) {
     );
     let outcome = answer.outcome;
     let given = answer.assignment;
-    write_assignment(code_of(outcome), given);
+    write_assignment(rt, code_of(outcome), given)
 }
 
 // The assignment of the first costs, as many as `length` says.
-fn pair_front(costs: &[f64], length: u64, sides: u64, row_cost: u64, column_cost: u64) {
+fn pair_front(
+    rt: &impl Print,
+    costs: &[f64],
+    length: u64,
+    sides: u64,
+    row_cost: u64,
+    column_cost: u64,
+) -> io::Result<()> {
     let end = super::wire::at_most(length, costs.len());
-    pair(&costs[..end], sides, row_cost, column_cost);
+    pair(rt, &costs[..end], sides, row_cost, column_cost)
 }
 
 // One call: see main.rt. How many costs are loaded then.
 pub fn run(
+    rt: &impl Print,
     costs: &mut [f64; 4096],
     loaded: usize,
     letter: u8,
@@ -140,16 +158,16 @@ pub fn run(
     second: u64,
     third: u64,
     fourth: u64,
-) -> usize {
+) -> io::Result<usize> {
     if letter == b'B' {
         let one = push(costs, loaded, first);
         let two = push(costs, one, second);
         let three = push(costs, two, third);
-        push(costs, three, fourth)
+        Ok(push(costs, three, fourth))
     } else if letter == b'M' {
-        push_many(costs, loaded, first, second)
+        Ok(push_many(costs, loaded, first, second))
     } else {
-        pair_front(costs, first, second, third, fourth);
-        0
+        pair_front(rt, costs, first, second, third, fourth)?;
+        Ok(0)
     }
 }

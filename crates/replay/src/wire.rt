@@ -2,6 +2,30 @@
 // Seen by this program alone, which reads at the places of its own format.
 ghost use Rattle.std.specs.Prelude.{◌<◌, ◌≤◌};
 
+use std::io;
+use std::io::{ErrorKind, Read};
+
+// The bytes of a line that was read, or that no whole line is left.
+#[derive(Clone, Copy)]
+pub enum Input {
+    Line([u8; 70]),
+    Ended,
+}
+
+// The next line, if there is a whole one.
+pub fn read<R: Read>(reader: &mut R) -> io::Result<Input> {
+    let mut l = [0u8; 70];
+    match reader.read_exact(&mut l) {
+        Ok(()) => Ok(Input::Line(l)),
+        Err(e) => {
+            if e.kind() == ErrorKind::UnexpectedEof {
+                return Ok(Input::Ended);
+            }
+            Err(e)
+        }
+    }
+}
+
 // The value of a hexadecimal digit; 0 for any other byte.
 fn digit(c: u8) -> u64
     ensures { result < 16 }
@@ -48,7 +72,7 @@ fn put(l: &mut [u8; 70], at: usize, value: u64)
 }
 
 // Writes a line.
-pub fn write(letter: u8, a: u64, b: u64, c: u64, d: u64) {
+pub fn write(rt: &impl Print, letter: u8, a: u64, b: u64, c: u64, d: u64) -> io::Result<()> {
     let mut l = [32u8; 70];
     l[0] = letter;
     put(&mut l, 2, a);
@@ -56,11 +80,7 @@ pub fn write(letter: u8, a: u64, b: u64, c: u64, d: u64) {
     put(&mut l, 36, c);
     put(&mut l, 53, d);
     l[69] = 10;
-    send(&l);
-}
-
-fn send(l: &[u8; 70]) {
-    io::write_all(1, l);
+    rt.write_all(&l)
 }
 
 // A number, or the limit where it is above it.

@@ -1,5 +1,7 @@
 // Lines of a letter and four numbers of 16 hexadecimal digits, each after a blank, with a newline at the end: what programs that replay recorded
 // calls read and write.
+#![tactic(auto)]
+
 ghost use Rattle.std.specs.Prelude.{◌<◌, ◌≤◌};
 
 pub mod digests;
@@ -7,7 +9,10 @@ pub mod floats;
 pub mod names;
 pub mod signs;
 
-#[derive(Drop)]
+use std::io;
+use std::io::{ErrorKind, Read};
+
+#[derive(Clone, Copy)]
 pub struct Line {
     pub letter: u8,
     pub first: u64,
@@ -16,7 +21,7 @@ pub struct Line {
     pub fourth: u64,
 }
 
-#[derive(Drop)]
+#[derive(Clone, Copy)]
 pub enum Input {
     Read(Line),
     Ended,
@@ -64,13 +69,17 @@ fn line_of(l: &[u8; 70]) -> Line {
     }
 }
 
-// The next line of standard input, if there is a whole one.
-pub fn read() -> Input {
+// The next line, if there is a whole one.
+pub fn read<R: Read>(reader: &mut R) -> io::Result<Input> {
     let mut l = [0u8; 70];
-    if io::read_full(0, &mut l) < 70 {
-        Input::Ended
-    } else {
-        Input::Read(line_of(&l))
+    match reader.read_exact(&mut l) {
+        Ok(()) => Ok(Input::Read(line_of(&l))),
+        Err(e) => {
+            if e.kind() == ErrorKind::UnexpectedEof {
+                return Ok(Input::Ended);
+            }
+            Err(e)
+        }
     }
 }
 
@@ -87,8 +96,8 @@ fn put(l: &mut [u8; 70], at: usize, value: u64)
     }
 }
 
-// Writes a line to standard output.
-pub fn write(letter: u8, a: u64, b: u64, c: u64, d: u64) {
+// Writes a line.
+pub fn write(rt: &impl Print, letter: u8, a: u64, b: u64, c: u64, d: u64) -> io::Result<()> {
     let mut l = [32u8; 70];
     l[0] = letter;
     put(&mut l, 2, a);
@@ -96,11 +105,7 @@ pub fn write(letter: u8, a: u64, b: u64, c: u64, d: u64) {
     put(&mut l, 36, c);
     put(&mut l, 53, d);
     l[69] = 10;
-    send(&l);
-}
-
-fn send(l: &[u8; 70]) {
-    io::write_all(1, l);
+    rt.write_all(&l)
 }
 
 // A number, or the limit where it is above it.
