@@ -4,6 +4,7 @@ use super::loads::Loads;
 use batch_records::{PkBatch, PkReport};
 use records::config::PkSettings;
 use records::tracker::PkTracker;
+use std::io;
 use wire::Line;
 use wire::floats::number_of;
 use wire::signs::signed;
@@ -21,67 +22,79 @@ fn report_digest(r: PkReport) -> u64 {
 }
 
 // The digest of a state has the third place.
-fn write(letter: u8, code: u32, report: u64, t: PkTracker) {
-    wire::write(letter, code as u64, report, state_digest(t), 0);
+fn write(rt: &impl Print, letter: u8, code: u32, report: u64, t: PkTracker) -> io::Result<()> {
+    wire::write(rt, letter, code as u64, report, state_digest(t), 0)
 }
 
-fn write_state(t: PkTracker) {
+fn write_state(rt: &impl Print, t: PkTracker) -> io::Result<()> {
     let mut words = [0u64; 5256];
     let n = super::state::push_state(&mut words, t);
-    wire::write(b'e', n as u64, 0, 0, 0);
-    super::words::write(&words, n);
+    wire::write(rt, b'e', n as u64, 0, 0, 0)?;
+    super::words::write(rt, &words, n)
 }
 
 // Where a field is bad, no digest is written.
-fn new(t: PkTracker, s: PkSettings) -> PkTracker {
+fn new(rt: &impl Print, t: PkTracker, s: PkSettings) -> io::Result<PkTracker> {
     let field = c_tracker::settings_check(s);
     let answer = c_tracker::new(t, s);
     let after = answer.tracker;
     if field == 0 {
-        write(b'n', 0, 0, after);
+        write(rt, b'n', 0, 0, after)?;
     } else {
-        wire::write(b'n', field as u64, 0, 0, 0);
+        wire::write(rt, b'n', field as u64, 0, 0, 0)?;
     }
-    after
+    Ok(after)
 }
 
-fn process_batch(t: PkTracker, b: PkBatch) -> PkTracker {
+fn process_batch(rt: &impl Print, t: PkTracker, b: PkBatch) -> io::Result<PkTracker> {
     let processed = c_tracker::process_batch(t, b);
     let after = processed.tracker;
     let report = processed.report;
-    write(b'b', report.code, report_digest(report), after);
-    after
+    write(rt, b'b', report.code, report_digest(report), after)?;
+    Ok(after)
 }
 
-fn predict_to(t: PkTracker, time: i64) -> PkTracker {
+fn predict_to(rt: &impl Print, t: PkTracker, time: i64) -> io::Result<PkTracker> {
     let answer = c_tracker::predict_to(t, time);
     let after = answer.tracker;
-    write(b'm', answer.code, 0, after);
-    after
+    write(rt, b'm', answer.code, 0, after)?;
+    Ok(after)
 }
 
-fn set_class_prior(t: PkTracker, id: u64, label: u32, confidence: f64) -> PkTracker {
+fn set_class_prior(
+    rt: &impl Print,
+    t: PkTracker,
+    id: u64,
+    label: u32,
+    confidence: f64,
+) -> io::Result<PkTracker> {
     let answer = c_tracker::set_class_prior(t, id, label, confidence);
     let after = answer.tracker;
-    write(b'c', answer.code, 0, after);
-    after
+    write(rt, b'c', answer.code, 0, after)?;
+    Ok(after)
 }
 
 // A line n, b, m, c or e; any other is passed over.
-pub fn run(t: PkTracker, l: Loads, line: Line) -> PkTracker {
+pub fn run(rt: &impl Print, t: PkTracker, l: Loads, line: Line) -> io::Result<PkTracker> {
     let settings = l.settings;
     if line.letter == b'n' {
-        new(t, super::config::settings_of(settings))
+        new(rt, t, super::config::settings_of(settings))
     } else if line.letter == b'b' {
-        process_batch(t, super::batch::batch_of(l, line))
+        process_batch(rt, t, super::batch::batch_of(l, line))
     } else if line.letter == b'm' {
-        predict_to(t, signed(line.first))
+        predict_to(rt, t, signed(line.first))
     } else if line.letter == b'c' {
-        set_class_prior(t, line.first, u32_of(line.second), number_of(line.third))
+        set_class_prior(
+            rt,
+            t,
+            line.first,
+            u32_of(line.second),
+            number_of(line.third),
+        )
     } else if line.letter == b'e' {
-        write_state(t);
-        t
+        write_state(rt, t)?;
+        Ok(t)
     } else {
-        t
+        Ok(t)
     }
 }

@@ -2,7 +2,7 @@
 use wire::Line;
 
 // Words of settings, of detections, twenty each, and of a frame's name.
-#[derive(Drop)]
+#[derive(Clone, Copy)]
 pub struct Loads {
     pub settings: [u64; 28],
     pub settings_count: usize,

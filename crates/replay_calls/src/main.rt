@@ -5,6 +5,8 @@
 //   d four words of a detection. f four numbers: a frame's name. b sensor, sequence, time, sizes: the batch of what is loaded. Answers b, 0 or the refusal's number, the
 //     report's digest, and the state's.
 //   e: the state. Answers e and how many words it has; then these in lines w of four.
+#![tactic(auto)]
+
 mod batch;
 mod calls;
 mod config;
@@ -14,20 +16,23 @@ mod state;
 mod track;
 mod words;
 
+use std::io;
 use wire::Input;
 
-fn main() {
+fn main(rt: HostRuntime) -> io::Result<()> {
+    let mut stdin = rt.stdin();
     let mut tracker = records::tracker::fresh(c_tracker::settings_default());
     let mut loads = loads::nothing();
     for _ in 0..1099511627776u64 {
-        let Input::Read(line) = wire::read() else {
+        let Input::Read(line) = wire::read(&mut stdin)? else {
             break;
         };
         if loads::is_load(line.letter) {
             loads = loads::load(loads, line);
             continue;
         }
-        tracker = calls::run(tracker, loads, line);
+        tracker = calls::run(&rt, tracker, loads, line)?;
         loads = loads::after(loads, line.letter);
     }
+    Ok(())
 }

@@ -1,5 +1,6 @@
 // Words of a record, one behind the other. What finds no room is passed over; a state has at most 5254: 64 tracks of 76 words, 32 sequences of 2, 64 candidates of 5, and
 // 6 more.
+use std::io;
 use wire::floats::bits_of;
 use wire::signs::bits;
 
@@ -30,17 +31,19 @@ pub fn digest(words: &[u64; 5256], n: usize) -> u64 {
 }
 
 // Writes the first n words, four to a line.
-pub fn write(words: &[u64; 5256], n: usize) {
+pub fn write(rt: &impl Print, words: &[u64; 5256], n: usize) -> io::Result<()> {
     for i in 0..1314usize {
         if i * 4 < n {
             wire::write(
+                rt,
                 b'w',
                 words[i * 4],
                 words[i * 4 + 1],
                 words[i * 4 + 2],
                 words[i * 4 + 3],
-            );
+            )?;
             continue;
         }
     }
+    Ok(())
 }
