@@ -8,10 +8,10 @@
 #![tactic(auto)]
 
 mod batch;
-mod calls;
 mod config;
 mod loads;
 mod report;
+mod runs;
 mod state;
 mod track;
 mod words;
@@ -31,7 +31,7 @@ fn main(rt: HostRuntime) -> io::Result<()> {
             loads = loads::load(loads, line);
             continue;
         }
-        tracker = calls::run(&rt, tracker, loads, line)?;
+        tracker = runs::run(&rt, tracker, loads, line)?;
         loads = loads::after(loads, line.letter);
     }
     Ok(())
