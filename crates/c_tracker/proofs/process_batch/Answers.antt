@@ -1,5 +1,3 @@
-use mathlib.Core.Path.{ap, ◌∙◌}
-use Prim.Native.Nat.{ℕ}
 use Rattle.batch_records.specs.Batches.{report_to}
 use Rattle.c_tracker.proofs.Settling.{batch_carried, batch_refused}
 use Rattle.c_tracker.proofs.process_batch.Goals as goal
@@ -13,4 +11,4 @@ pub returns-in-Refused : goal.returns-in-Refused
 returns-in-Refused c =
     let a = c.args in
     batch_refused a.t a.b c.process_batch-ran.result c.batch_of.result c.batch_of.ensures c.process_batch-ran.ensures c.in-Refused.why c.report_to-in-Refused.result c.in-Refused.is
-    (c.report_to-in-Refused.ensures ∙ ap (λ (n : ℕ). report_to n c.process_batch-ran.result.report) c.number_of.ensures)
+    (let h = c.report_to-in-Refused.ensures in cc)
