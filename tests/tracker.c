@@ -561,7 +561,7 @@ static void stacks(void)
         }
         size_t deep = deepest(calls[i].call);
         printf("stack of %s: %zu bytes\n", calls[i].name, deep - thread);
-        CHECK(deep < PK_STACK_BYTES - PK_STACK_BYTES / 8);
+        CHECK(deep < PK_STACK_BYTES - PK_STACK_BYTES / 32);
     }
     CHECK(reported.code == PK_DONE && reported.associations[0].outcome == PK_UPDATED);
 }
