@@ -15,6 +15,7 @@ fn read_full<R: Read>(reader: &mut R, buf: &mut [u8]) -> io::Result<usize>
     ensures end { IfOk result (λ n. n < length buf.new → IsAtEnd (R.remaining reader.new)) }
 {
     let mut at = 0;
+    // A loop of its own: `read_exact` says nothing of how much stood before an early end, and `read_to_end` allocates.
     while at < buf.len() {
         let n = reader.read(&mut buf[at..])?;
         if n == 0 {

@@ -1,7 +1,6 @@
 -- The whole reply, from the takers' reply.
 use mathlib.Core.Path.{◌≡◌, refl, sym, ap, ap₂, ◌∙◌, subst}
 use mathlib.Core.List.{List, [], ◌∷◌, map}
-use mathlib.Core.Option.{Option}
 use Prim.Native.Nat.{ℕ, ◌*◌, ◌≤◌, ◌<◌}
 use mathlib.Core.Bool.{Bool, true, false}
 use native.Mathlib.Decide.{ℕ_discrete, dec_lt}
@@ -9,6 +8,7 @@ use native.Mathlib.Omega.{arith}
 use lib.ListN.{length, take, length-map}
 use lib.Ieee.{Float}
 use lib.Ieee.Scale.{finite}
+use Rattle.std.specs.Prelude.{Ok, Err, Option}
 use Rattle.number.specs.Reply.{Reply, refused, given, and_then}
 use Rattle.lists.specs.Masks.{zipped}
 use Rattle.kuhn_munkres.specs.Assignment.{Pair, Pairs, rows_of, pairing, pairs_of, takers_reply, assignment_reply}
@@ -16,11 +16,9 @@ use Rattle.groups.proofs.Once.{pairing_sound}
 use Rattle.least.specs.Least.{LeastOnWholes}
 use Rattle.least.proofs.Answer.{assignment_least}
 use Rattle.assignment.specs.Listing.{padded, row_of, column_in, pair_of, assignment_of, assignment_for, pairs_in, Once, AssignmentAnswer}
-use Rattle.assignment.specs.Replies.{reply_of}
+use Rattle.assignment.specs.Replies.{number_of}
 use Rattle.assignment.specs.declared.Assignment.{Assignment}
-use Rattle.assignment.specs.declared.Assigned.{Assigned}
-use Rattle.assignment.specs.declared.Outcome.{Outcome}
-use Rattle.assignment.specs.declared.Outcome.TheVariants.{Given}
+use Rattle.assignment.specs.declared.AssignmentError.{AssignmentError}
 use Rattle.assignment.proofs.Calls.{rows_over, columns_over, row_cost_bad, column_cost_bad, size_bad, checked}
 use Rattle.assignment.proofs.EachOnce.{each_once}
 use Rattle.assignment.proofs.Listings.{front}
@@ -37,10 +35,6 @@ holds a =
     let c : take (length a.pairs) (padded (map column_in a.pairs)) ≡ map column_in a.pairs = ap (λ (k : ℕ). take k (padded (map column_in a.pairs))) (sym (length-map a.pairs column_in)) ∙ front (map column_in a.pairs) in
     let p : zipped pair_of (take (length a.pairs) (padded (map row_of a.pairs))) (take (length a.pairs) (padded (map column_in a.pairs))) ≡ a.pairs = ap₂ (λ (x y : List ℕ). zipped pair_of x y) r c ∙ zip_pairs a.pairs in
     λ i. record { pairs = p i; rows = front a.rows i; columns = front a.columns i }
-
--- the outcome is known
-pub told : {A : Type 0} (o o' : Outcome) (t : A) (x : Reply A) → o ≡ o' → reply_of o t ≡ x → reply_of o' t ≡ x
-told o o' t x e q = ap (λ (y : Outcome). reply_of y t) (sym e) ∙ q
 
 module _ (costs : List Float) (n m : ℕ) (rowCost columnCost : Float) where
   never : {A : Type 0} (k : ℕ) (t : A) (x : Reply A) → refused k ≡ x → given t ≡ x → ⊥
@@ -92,23 +86,20 @@ module _ (costs : List Float) (n m : ℕ) (rowCost columnCost : Float) where
           subst (Once n m) z (each_once t n S.low S.inj m S.long)
 
   -- what the answer holds, from the definition's reply
-  held : (r : Assigned) → reply_of r.outcome (pairs_in r.assignment) ≡ assignment_reply costs n m rowCost columnCost → r.assignment ≡ assignment_for (assignment_reply costs n m rowCost columnCost) → AssignmentAnswer costs n m rowCost columnCost r
-  held r e a =
+  pub answer_given : (t : List (Option ℕ)) (a : Assignment) → given t ≡ takers_reply costs n m rowCost columnCost → a ≡ assignment_of (pairs_of n t) → AssignmentAnswer costs n m rowCost columnCost (Ok a)
+  unfolding assignment_reply
+  answer_given t a e h =
+      let w : given (pairs_of n t) ≡ assignment_reply costs n m rowCost columnCost = ap (λ (x : Reply (List (Option ℕ))). and_then x (λ y. given (pairs_of n y))) e in
+      let is : given (pairs_in a) ≡ assignment_reply costs n m rowCost columnCost = ap (λ (x : Assignment). given (pairs_in x)) h ∙ ap given (holds (pairs_of n t)) ∙ w in
       record {
-        is = e;
-        whole = a;
-        once = λ o. once_all (pairs_in r.assignment) (sym (told r.outcome Given (pairs_in r.assignment) _ o e));
-        least = subst (LeastOnWholes costs n m rowCost columnCost) (sym e) (assignment_least costs n m rowCost columnCost);
+        is = is;
+        whole = h ∙ ap assignment_for w;
+        once = once_all (pairs_in a) (sym is);
+        least = subst (LeastOnWholes costs n m rowCost columnCost) (sym is) (assignment_least costs n m rowCost columnCost);
       }
 
-  pub answer_given : (t : List (Option ℕ)) (r : Assigned) → given t ≡ takers_reply costs n m rowCost columnCost → r.outcome ≡ Given → r.assignment ≡ assignment_of (pairs_of n t) → AssignmentAnswer costs n m rowCost columnCost r
+  pub answer_refused : (why : AssignmentError) → refused (number_of why) ≡ takers_reply costs n m rowCost columnCost → AssignmentAnswer costs n m rowCost columnCost (Err why)
   unfolding assignment_reply
-  answer_given t r e o a =
-      let w : given (pairs_of n t) ≡ assignment_reply costs n m rowCost columnCost = ap (λ (x : Reply (List (Option ℕ))). and_then x (λ y. given (pairs_of n y))) e in
-      held r (ap₂ (λ (x : Outcome) (y : Assignment). reply_of x (pairs_in y)) o a ∙ ap given (holds (pairs_of n t)) ∙ w) (a ∙ ap assignment_for w)
-
-  pub answer_refused : (k : ℕ) (r : Assigned) → refused k ≡ takers_reply costs n m rowCost columnCost → ((p : Pairs) → reply_of r.outcome p ≡ refused k) → r.assignment ≡ assignment_of (record { pairs = []; rows = []; columns = [] }) → AssignmentAnswer costs n m rowCost columnCost r
-  unfolding assignment_reply
-  answer_refused k r e o a =
-      let w : refused k ≡ assignment_reply costs n m rowCost columnCost = ap (λ (x : Reply (List (Option ℕ))). and_then x (λ y. given (pairs_of n y))) e in
-      held r (o (pairs_in r.assignment) ∙ w) (a ∙ ap assignment_for w)
+  answer_refused why e =
+      let is : refused (number_of why) ≡ assignment_reply costs n m rowCost columnCost = ap (λ (x : Reply (List (Option ℕ))). and_then x (λ y. given (pairs_of n y))) e in
+      record { is = is; whole = tt; once = tt; least = subst (LeastOnWholes costs n m rowCost columnCost) (sym is) (assignment_least costs n m rowCost columnCost) }

@@ -1,8 +1,8 @@
 -- The whole table at once: what the groups give is the definition's pairing.
+use Rattle.std.specs.Prelude.{None, Option}
 use mathlib.Core.Path.{◌≡◌, refl, sym, ap, ◌∙◌}
 use mathlib.Core.Bool.{Bool, true, false, cond, ◌&&◌}
 use mathlib.Core.List.{List, [], ◌∷◌, ◌++◌, map}
-use mathlib.Core.Option.{Option, none}
 use Prim.Native.Nat.{ℕ, zero, suc, ◌-◌, ◌*◌, ◌≤◌, ◌<◌}
 use native.Mathlib.Nat.{suc-mul, zero-mul}
 use native.Mathlib.Omega.{arith}
@@ -34,10 +34,10 @@ largest_rows (suc n) w m l e =
     ap (largest m) (sym (take-append-drop w l)) ∙ largest_append m (take w l) (drop w l)
     ∙ largest_rows n w (largest m (take w l)) (drop w l) (length-drop w l ∙ (let q : length l - w ≡ n * w = omega (arith, suc-mul n w) in q))
 
-none_takers : (k m : ℕ) → m ≤ k → map row_or (take m (replicate k 64)) ≡ replicate m none
+none_takers : (k m : ℕ) → m ≤ k → map row_or (take m (replicate k 64)) ≡ replicate m None
 none_takers k zero h = refl
 none_takers zero (suc m) h = absurd (omega arith)
-none_takers (suc k) (suc m) h = ap (λ (l : List (Option ℕ)). none ∷ l) (none_takers k m (omega arith))
+none_takers (suc k) (suc m) h = ap (λ (l : List (Option ℕ)). None ∷ l) (none_takers k m (omega arith))
 
 pub paired : (costs : List Float) (n m : ℕ) (far rowCost columnCost : Float) (ok : Bool) (before after : List ℕ) → m ≤ 64 → length costs ≡ n * m → before ≡ replicate 64 64 → far ≡ sentinel_of (largest (larger_of rowCost columnCost) costs)
     → AllTaken costs n m far rowCost columnCost ok before after → reply_if ok (takers_of m after) ≡ pairing rowCost columnCost (rows_of n m costs) m
@@ -45,7 +45,7 @@ unfolding pairing
 paired costs n m far rowCost columnCost ok before after hm size b f a =
     a.is
     ∙ ap (λ (t : List (Option ℕ)). groups (own_reply far rowCost columnCost) (rows_of n m costs) (labels finite (rows_of n m costs) m) (up_from zero (rows_of n m costs)) t) (ap (takers_of m) b ∙ none_takers 64 m hm)
-    ∙ ap (λ (x : Float). groups (own_reply x rowCost columnCost) (rows_of n m costs) (labels finite (rows_of n m costs) m) (up_from zero (rows_of n m costs)) (replicate m none)) (f ∙ ap sentinel_of (largest_rows n m (larger_of rowCost columnCost) costs size))
+    ∙ ap (λ (x : Float). groups (own_reply x rowCost columnCost) (rows_of n m costs) (labels finite (rows_of n m costs) m) (up_from zero (rows_of n m costs)) (replicate m None)) (f ∙ ap sentinel_of (largest_rows n m (larger_of rowCost columnCost) costs size))
 
 -- ---- the checks, in 01's order
 module _ (costs : List Float) (n m : ℕ) (rowCost columnCost : Float) where

@@ -1,8 +1,8 @@
 -- The definition's masks and lists of a group, as the code's passes have them.
+use Rattle.std.specs.Prelude.{None, Option, Some}
 use mathlib.Core.Path.{◌≡◌, refl, sym, ap, ◌∙◌, subst}
 use mathlib.Core.Bool.{Bool, true, false, cond}
 use mathlib.Core.List.{List, map}
-use mathlib.Core.Option.{Option, none, some}
 use Prim.Native.Nat.{ℕ, zero, suc, ◌+◌, ◌*◌, ◌≤◌, ◌<◌}
 use native.Mathlib.Decide.{ℕ_discrete, dec_lt}
 use native.Mathlib.Omega.{arith}
@@ -40,8 +40,8 @@ unfolding is_label
 label_bears g x h = go (dec_lt x 64)
   where
     go : Dec (x < 64) → is_label g (row_or x) ≡ eqb x g
-    go (yes l) = ap (λ (b : Bool). is_label g (cond b (some x) none)) (lt-ltb x 64 l) ∙ eqb_sym g x
-    go (no l) = ap (λ (b : Bool). is_label g (cond b (some x) none)) (le-ltb x 64 (omega arith)) ∙ sym (ne_eqb x g (λ e. omega arith))
+    go (yes l) = ap (λ (b : Bool). is_label g (cond b (Some x) None)) (lt-ltb x 64 l) ∙ eqb_sym g x
+    go (no l) = ap (λ (b : Bool). is_label g (cond b (Some x) None)) (le-ltb x 64 (omega arith)) ∙ sym (ne_eqb x g (λ e. omega arith))
 
 module _ (costs : List Float) (n m : ℕ) (rowNames columnNames : List ℕ) (hn : n ≤ 64) (hm : m ≤ 64) (size : length costs ≡ n * m) (nb : NamedBy (labels finite (rows_of n m costs) m) n m rowNames columnNames)
     (g : ℕ) (hg : g < n) where
@@ -69,11 +69,11 @@ module _ (costs : List Float) (n m : ℕ) (rowNames columnNames : List ℕ) (hn 
   long_cols : length (take m columnNames) ≡ m
   long_cols = sym (length-map (take m columnNames) row_or) ∙ ap length nb.of_columns_lem ∙ N.cols_long
 
-  pub col_name : (j : ℕ) → j < m → get_or s.of_columns j none ≡ row_or (get_or columnNames j 0)
-  col_name j h = ap (λ (l : List (Option ℕ)). get_or l j none) (sym nb.of_columns_lem) ∙ map_at row_or (take m columnNames) j 0 none (rw long_cols h) ∙ ap row_or (get_or-take m columnNames j 0 h)
+  pub col_name : (j : ℕ) → j < m → get_or s.of_columns j None ≡ row_or (get_or columnNames j 0)
+  col_name j h = ap (λ (l : List (Option ℕ)). get_or l j None) (sym nb.of_columns_lem) ∙ map_at row_or (take m columnNames) j 0 None (rw long_cols h) ∙ ap row_or (get_or-take m columnNames j 0 h)
 
   pub cm_at : (j : ℕ) → j < m → get_or cm j false ≡ bears columnNames g j
-  cm_at j h = map_at (is_label g) s.of_columns j none false (rw N.cols_long h) ∙ ap (is_label g) (col_name j h) ∙ label_bears g (get_or columnNames j 0) (omega arith)
+  cm_at j h = map_at (is_label g) s.of_columns j None false (rw N.cols_long h) ∙ ap (is_label g) (col_name j h) ∙ label_bears g (get_or columnNames j 0) (omega arith)
 
   rm_at : (i : ℕ) → i < n → get_or rm i false ≡ bears rowNames g i
   rm_at i h = map_at (eqb g) s.of_rows i 0 false (rw N.rows_long h) ∙ ap (eqb g) (row_name_lem i h) ∙ eqb_sym g (get_or rowNames i 0)
@@ -92,7 +92,7 @@ module _ (costs : List Float) (n m : ℕ) (rowNames columnNames : List ℕ) (hn 
       absent : (j : ℕ) → j < m → bears columnNames g j ≡ true → ⊥
       absent j h e =
           let q : get_or columnNames j 0 ≡ g = eqb-true (get_or columnNames j 0) g e in
-          let w : get_or s.of_columns j none ≡ some g = col_name j h ∙ ap row_or q ∙ ap (λ (b : Bool). cond b (some g) none) (lt-ltb g 64 (omega arith)) in
+          let w : get_or s.of_columns j None ≡ Some g = col_name j h ∙ ap row_or q ∙ ap (λ (b : Bool). cond b (Some g) None) (lt-ltb g 64 (omega arith)) in
           f (sym (row_name_lem g hg) ∙ N.col_own j g w)
 
       zero_ticks : Dec (0 < ticks (bears columnNames g) m) → ticks (bears columnNames g) m ≡ 0
@@ -129,12 +129,12 @@ module _ (costs : List Float) (n m : ℕ) (rowNames columnNames : List ℕ) (hn 
     named_is zero = refl
     named_is (suc i) = go (dec_lt i r)
       where
-        go : Dec (i < r) → named (take r members) (cond (ltb i r) (some i) none) ≡ row_or (cond (ltb i r) (get_or members i 0) 64)
+        go : Dec (i < r) → named (take r members) (cond (ltb i r) (Some i) None) ≡ row_or (cond (ltb i r) (get_or members i 0) 64)
         go (yes h) =
-            ap (λ (b : Bool). named (take r members) (cond b (some i) none)) (lt-ltb i r h)
-            ∙ ap some (get_or-take r members i 0 h)
-            ∙ sym (ap (λ (b : Bool). row_or (cond b (get_or members i 0) 64)) (lt-ltb i r h) ∙ ap (λ (b : Bool). cond b (some (get_or members i 0)) none) (lt-ltb (get_or members i 0) 64 (small i h)))
-        go (no h) = ap (λ (b : Bool). named (take r members) (cond b (some i) none)) (le-ltb i r (omega arith)) ∙ sym (ap (λ (b : Bool). row_or (cond b (get_or members i 0) 64)) (le-ltb i r (omega arith)))
+            ap (λ (b : Bool). named (take r members) (cond b (Some i) None)) (lt-ltb i r h)
+            ∙ ap Some (get_or-take r members i 0 h)
+            ∙ sym (ap (λ (b : Bool). row_or (cond b (get_or members i 0) 64)) (lt-ltb i r h) ∙ ap (λ (b : Bool). cond b (Some (get_or members i 0)) None) (lt-ltb (get_or members i 0) 64 (small i h)))
+        go (no h) = ap (λ (b : Bool). named (take r members) (cond b (Some i) None)) (le-ltb i r (omega arith)) ∙ sym (ap (λ (b : Bool). row_or (cond b (get_or members i 0) 64)) (le-ltb i r (omega arith)))
 
     c_le : c ≤ m
     c_le = ticks_le (bears columnNames g) m
@@ -145,15 +145,15 @@ module _ (costs : List Float) (n m : ℕ) (rowNames columnNames : List ℕ) (hn 
     l_long : length (map (named (take r members)) own) ≡ c
     l_long = length-map own (named (take r members)) ∙ length-map (take c (drop 1 p)) (taker_of r) ∙ front_long
 
-    l_at : (k : ℕ) → k < c → get_or (map (named (take r members)) own) k none ≡ row_or (taker_number members r (get_or p (k + 1) 0))
+    l_at : (k : ℕ) → k < c → get_or (map (named (take r members)) own) k None ≡ row_or (taker_number members r (get_or p (k + 1) 0))
     l_at k h =
         let e : 1 + k ≡ k + 1 = omega arith in
-        map_at (named (take r members)) own k none none (rw (length-map (take c (drop 1 p)) (taker_of r) ∙ front_long) h)
-        ∙ ap (named (take r members)) (map_at (taker_of r) (take c (drop 1 p)) k 0 none (rw front_long h) ∙ ap (taker_of r) (get_or-take c (drop 1 p) k 0 h ∙ get_or-drop 1 p k 0 ∙ ap (λ (x : ℕ). get_or p x 0) e))
+        map_at (named (take r members)) own k None None (rw (length-map (take c (drop 1 p)) (taker_of r) ∙ front_long) h)
+        ∙ ap (named (take r members)) (map_at (taker_of r) (take c (drop 1 p)) k 0 None (rw front_long h) ∙ ap (taker_of r) (get_or-take c (drop 1 p) k 0 h ∙ get_or-drop 1 p k 0 ∙ ap (λ (x : ℕ). get_or p x 0) e))
         ∙ named_is (get_or p (k + 1) 0)
 
-    before_at : (j : ℕ) → j < m → get_or (takers_of m before) j none ≡ row_or (get_or before j 0)
-    before_at j h = map_at row_or (take m before) j 0 none (rw (length-take-le m before (rw before-long hm)) h) ∙ ap row_or (get_or-take m before j 0 h)
+    before_at : (j : ℕ) → j < m → get_or (takers_of m before) j None ≡ row_or (get_or before j 0)
+    before_at j h = map_at row_or (take m before) j 0 None (rw (length-take-le m before (rw before-long hm)) h) ∙ ap row_or (get_or-take m before j 0 h)
 
     takers_long : (l : List ℕ) → length l ≡ 64 → length (takers_of m l) ≡ m
     takers_long l h = length-map (take m l) row_or ∙ length-take-le m l (rw h hm)
@@ -161,18 +161,18 @@ module _ (costs : List Float) (n m : ℕ) (rowNames columnNames : List ℕ) (hn 
     pub taken_is : takers_of m after ≡ spread cm (map (named (left_by rm (up_from zero R))) own) (takers_of m before)
     taken_is =
         rw (members_is, ← members_are)
-        (ext_get_or none (takers_of m after) (spread cm (map (named (take r members)) own) (takers_of m before)) (takers_long after t.long ∙ sym (spread_long cm (map (named (take r members)) own) (takers_of m before) (cm_long ∙ sym (takers_long before before-long)) ∙ takers_long before before-long))
+        (ext_get_or None (takers_of m after) (spread cm (map (named (take r members)) own) (takers_of m before)) (takers_long after t.long ∙ sym (spread_long cm (map (named (take r members)) own) (takers_of m before) (cm_long ∙ sym (takers_long before before-long)) ∙ takers_long before before-long))
         (λ j q. at j (rw (takers_long after t.long) at q)))
       where
-        by : (j : ℕ) → j < m → (b : Bool) → bears columnNames g j ≡ b → row_or (cond b (taker_number members r (get_or p (ticks (bears columnNames g) j + 1) 0)) (get_or before j 0)) ≡ cond b (get_or (map (named (take r members)) own) (ticks (bears columnNames g) j) none) (row_or (get_or before j 0))
+        by : (j : ℕ) → j < m → (b : Bool) → bears columnNames g j ≡ b → row_or (cond b (taker_number members r (get_or p (ticks (bears columnNames g) j + 1) 0)) (get_or before j 0)) ≡ cond b (get_or (map (named (take r members)) own) (ticks (bears columnNames g) j) None) (row_or (get_or before j 0))
         by j h true e = sym (l_at (ticks (bears columnNames g) j) (ticks_below (bears columnNames g) j m h e))
         by j h false e = refl
 
-        at : (j : ℕ) → j < m → get_or (takers_of m after) j none ≡ get_or (spread cm (map (named (take r members)) own) (takers_of m before)) j none
+        at : (j : ℕ) → j < m → get_or (takers_of m after) j None ≡ get_or (spread cm (map (named (take r members)) own) (takers_of m before)) j None
         at j h =
-            let a : get_or (takers_of m after) j none ≡ row_or (get_or after j 0) = map_at row_or (take m after) j 0 none (rw (length-take-le m after (rw t.long hm)) h) ∙ ap row_or (get_or-take m after j 0 h) in
+            let a : get_or (takers_of m after) j None ≡ row_or (get_or after j 0) = map_at row_or (take m after) j 0 None (rw (length-take-le m after (rw t.long hm)) h) ∙ ap row_or (get_or-take m after j 0 h) in
             let u : ticks (λ i. get_or cm i false) j ≡ ticks (bears columnNames g) j = ticks_same _ _ j (λ i q. cm_at i (omega arith)) in
             let v : ticks (λ i. get_or cm i false) (length cm) ≡ c = ap (ticks (λ i. get_or cm i false)) cm_long ∙ ticks_same _ _ m (λ i q. cm_at i q) in
             a ∙ ap row_or (t.at j h) ∙ by j h (bears columnNames g j) refl
-            ∙ sym (spread_at none cm (map (named (take r members)) own) (takers_of m before) j (cm_long ∙ sym (takers_long before before-long)) (rw (takers_long before before-long) h) (rw (v, l_long) (omega arith))
+            ∙ sym (spread_at None cm (map (named (take r members)) own) (takers_of m before) j (cm_long ∙ sym (takers_long before before-long)) (rw (takers_long before before-long) h) (rw (v, l_long) (omega arith))
             ∙ rw (cm_at j h, u, before_at j h))

@@ -1,9 +1,9 @@
 -- Joining row i with its columns, one after the other, is the definition's join of row i.
+use Rattle.std.specs.Prelude.{None, Option, Some}
 use mathlib.Core.Path.{◌≡◌, refl, sym, ap, ◌∙◌, subst}
 use mathlib.Core.Logic.{◌⊎◌, inl, inr}
 use mathlib.Core.Bool.{Bool, true, false, cond, ◌&&◌, ◌||◌, true≢false}
 use mathlib.Core.List.{List}
-use mathlib.Core.Option.{Option, none, some}
 use Prim.Native.Nat.{ℕ, zero, suc, ◌+◌, ◌-◌, ◌*◌, ◌≤◌, ◌<◌}
 use native.Mathlib.Decide.{ℕ_discrete, dec_lt}
 use native.Mathlib.Numerals.{add-one}
@@ -71,7 +71,7 @@ module _ (n : ℕ) (s : Labels) where
   unfolding item_label
   item_next x h l = rw (le-ltb x (length s.of_rows) h, lt-ltb x n l)
 
-  pub item_col : (x : ℕ) → length s.of_rows ≤ x → n ≤ x → item_label n s x ≡ or_item x (get_or s.of_columns (x - n) none)
+  pub item_col : (x : ℕ) → length s.of_rows ≤ x → n ≤ x → item_label n s x ≡ or_item x (get_or s.of_columns (x - n) None)
   unfolding item_label
   item_col x h l = rw (le-ltb x (length s.of_rows) h, le-ltb x n l)
 
@@ -110,22 +110,22 @@ module _ (n m : ℕ) (costs : List Float) (i : ℕ) (hi : i < n) (fits : suc i *
       go (no h) = absurd (true≢false (sym e ∙ ap finite (get_or-eq_default row nan (rw long (omega arith)))))
 
   -- a column's item
-  col_label : (j : ℕ) → Λ (n + j) ≡ or_item (n + j) (get_or s.of_columns j none)
-  col_label j = let e : n + j - n ≡ j = omega arith in item_col n s (n + j) (rw N.rows_long (omega arith)) (omega arith) ∙ ap (λ (k : ℕ). or_item (n + j) (get_or s.of_columns k none)) e
+  col_label : (j : ℕ) → Λ (n + j) ≡ or_item (n + j) (get_or s.of_columns j None)
+  col_label j = let e : n + j - n ≡ j = omega arith in item_col n s (n + j) (rw N.rows_long (omega arith)) (omega arith) ∙ ap (λ (k : ℕ). or_item (n + j) (get_or s.of_columns k None)) e
 
-  col_none : (j : ℕ) → get_or s.of_columns j none ≡ none → Λ (n + j) ≡ n + j
+  col_none : (j : ℕ) → get_or s.of_columns j None ≡ None → Λ (n + j) ≡ n + j
   col_none j e = col_label j ∙ ap (or_item (n + j)) e
 
-  col_some : (j l : ℕ) → get_or s.of_columns j none ≡ some l → Λ (n + j) ≡ l
+  col_some : (j l : ℕ) → get_or s.of_columns j None ≡ Some l → Λ (n + j) ≡ l
   col_some j l e = col_label j ∙ ap (or_item (n + j)) e
 
   -- a label that a column bears is its item, or a row before i
-  bears : (j l : ℕ) → Λ (n + j) ≡ l → ((n + j ≡ l) × (get_or s.of_columns j none ≡ none)) ⊎ ((l < i) × (get_or s.of_columns j none ≡ some l))
-  bears j l e = go (get_or s.of_columns j none) refl
+  bears : (j l : ℕ) → Λ (n + j) ≡ l → ((n + j ≡ l) × (get_or s.of_columns j None ≡ None)) ⊎ ((l < i) × (get_or s.of_columns j None ≡ Some l))
+  bears j l e = go (get_or s.of_columns j None) refl
     where
-      go : (o : Option ℕ) → get_or s.of_columns j none ≡ o → ((n + j ≡ l) × (get_or s.of_columns j none ≡ none)) ⊎ ((l < i) × (get_or s.of_columns j none ≡ some l))
-      go none q = inl (sym (col_none j q) ∙ e, q)
-      go (some g) q = let w : g ≡ l = sym (col_some j g q) ∙ e in inr (rw w at (N.col_low j g q), q ∙ ap some w)
+      go : (o : Option ℕ) → get_or s.of_columns j None ≡ o → ((n + j ≡ l) × (get_or s.of_columns j None ≡ None)) ⊎ ((l < i) × (get_or s.of_columns j None ≡ Some l))
+      go None q = inl (sym (col_none j q) ∙ e, q)
+      go (Some g) q = let w : g ≡ l = sym (col_some j g q) ∙ e in inr (rw w at (N.col_low j g q), q ∙ ap Some w)
 
   -- what a row's label is touched by is what the definition has as hit
   hit_is : (l : ℕ) → l < n → touched A Λ n m l ≡ any (eqb l) (hits finite row s.of_columns)
@@ -134,7 +134,7 @@ module _ (n m : ℕ) (costs : List Float) (i : ℕ) (hi : i < n) (fits : suc i *
       into : Toucher A Λ n m l → any (eqb l) (hits finite row s.of_columns) ≡ true
       into t = by (bears t.at l t.is)
         where
-          by : ((n + t.at ≡ l) × (get_or s.of_columns t.at none ≡ none)) ⊎ ((l < i) × (get_or s.of_columns t.at none ≡ some l)) → any (eqb l) (hits finite row s.of_columns) ≡ true
+          by : ((n + t.at ≡ l) × (get_or s.of_columns t.at None ≡ None)) ⊎ ((l < i) × (get_or s.of_columns t.at None ≡ Some l)) → any (eqb l) (hits finite row s.of_columns) ≡ true
           by (inl p) = absurd (let e = p.0 in omega arith)
           by (inr p) = hit_in finite nan refl row s.of_columns t.at l (ap finite (row_at_lem t.at t.below) ∙ t.may) p.1
 
@@ -180,10 +180,10 @@ module _ (n m : ℕ) (costs : List Float) (i : ℕ) (hi : i < n) (fits : suc i *
       ∙ sym (item_next n s' z (rw N'.rows_long (omega arith)) l)
 
   -- the item of column j
-  col_label' : (j : ℕ) → item_label n s' (n + j) ≡ or_item (n + j) (get_or s'.of_columns j none)
-  col_label' j = let e : n + j - n ≡ j = omega arith in item_col n s' (n + j) (rw N'.rows_long (omega arith)) (omega arith) ∙ ap (λ (k : ℕ). or_item (n + j) (get_or s'.of_columns k none)) e
+  col_label' : (j : ℕ) → item_label n s' (n + j) ≡ or_item (n + j) (get_or s'.of_columns j None)
+  col_label' j = let e : n + j - n ≡ j = omega arith in item_col n s' (n + j) (rw N'.rows_long (omega arith)) (omega arith) ∙ ap (λ (k : ℕ). or_item (n + j) (get_or s'.of_columns k None)) e
 
-  alone_stays : (j : ℕ) → get_or s.of_columns j none ≡ none → (j < m → A j ≡ false) → get_or s'.of_columns j none ≡ none → row_label A Λ n i m (n + j) ≡ item_label n s' (n + j)
+  alone_stays : (j : ℕ) → get_or s.of_columns j None ≡ None → (j < m → A j ≡ false) → get_or s'.of_columns j None ≡ None → row_label A Λ n i m (n + j) ≡ item_label n s' (n + j)
   alone_stays j e f e' =
       let q : Λ (n + j) ≡ n + j = col_none j e in
       keep (touched A Λ n m (Λ (n + j))) (Λ (n + j)) i (n + j) q (ap (touched A Λ n m) q ∙ miss (n + j) (λ k h a w. elim (bears k (n + j) w) [ inl p ↦ other k h a p.0 | inr p ↦ (let r = p.0 in omega arith) ]))
@@ -196,22 +196,22 @@ module _ (n m : ℕ) (costs : List Float) (i : ℕ) (hi : i < n) (fits : suc i *
   unfolding joined_to relabelled relabel
   column j = go (dec_lt j m)
     where
-      in_row : (h : j < m) (b : Bool) (o : Option ℕ) → finite (get_or row j nan) ≡ b → get_or s.of_columns j none ≡ o → row_label A Λ n i m (n + j) ≡ item_label n s' (n + j)
+      in_row : (h : j < m) (b : Bool) (o : Option ℕ) → finite (get_or row j nan) ≡ b → get_or s.of_columns j None ≡ o → row_label A Λ n i m (n + j) ≡ item_label n s' (n + j)
       in_row h true o p q =
           let t = touch_in A Λ n m j (Λ (n + j)) h (ap finite (sym (row_at_lem j h)) ∙ p) refl in
-          let w : get_or s'.of_columns j none ≡ some i = col_new finite nan refl i m s N row long j h ∙ rw p in
+          let w : get_or s'.of_columns j None ≡ Some i = col_new finite nan refl i m s N row long j h ∙ rw p in
           ap (λ (b : Bool). cond b i (Λ (n + j))) t ∙ sym (col_label' j ∙ ap (or_item (n + j)) w)
-      in_row h false none p q = alone_stays j q (λ _. ap finite (sym (row_at_lem j h)) ∙ p) (col_new finite nan refl i m s N row long j h ∙ rw (p, q))
-      in_row h false (some l) p q =
+      in_row h false None p q = alone_stays j q (λ _. ap finite (sym (row_at_lem j h)) ∙ p) (col_new finite nan refl i m s N row long j h ∙ rw (p, q))
+      in_row h false (Some l) p q =
           let e : Λ (n + j) ≡ l = col_some j l q in
-          let w : get_or s'.of_columns j none ≡ some (relabel (hits finite row s.of_columns) i l) = col_new finite nan refl i m s N row long j h ∙ rw (p, q) in
+          let w : get_or s'.of_columns j None ≡ Some (relabel (hits finite row s.of_columns) i l) = col_new finite nan refl i m s N row long j h ∙ rw (p, q) in
           ap (λ (x : ℕ). cond (touched A Λ n m x) i x) e
           ∙ ap (λ (b : Bool). cond b i l) (hit_is l (let r = N.col_low j l q in omega arith))
           ∙ sym (col_label' j ∙ ap (or_item (n + j)) w)
 
       go : Dec (j < m) → row_label A Λ n i m (n + j) ≡ item_label n s' (n + j)
-      go (yes h) = in_row h (finite (get_or row j nan)) (get_or s.of_columns j none) refl refl
-      go (no h) = alone_stays j (get_or-eq_default s.of_columns none (rw N.cols_long (omega arith))) (λ g. absurd (h g)) (col_beyond finite nan refl i m s N row long j (omega arith))
+      go (yes h) = in_row h (finite (get_or row j nan)) (get_or s.of_columns j None) refl refl
+      go (no h) = alone_stays j (get_or-eq_default s.of_columns None (rw N.cols_long (omega arith))) (λ g. absurd (h g)) (col_beyond finite nan refl i m s N row long j (omega arith))
 
   pub row_is : (z : ℕ) → row_label A Λ n i m z ≡ item_label n s' z
   row_is z = go (dec_lt z i) (ℕ_discrete z i) (dec_lt z n)

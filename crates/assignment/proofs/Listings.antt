@@ -1,8 +1,8 @@
 -- One row or column more of the lists.
+use Rattle.std.specs.Prelude.{None, Option, Some}
 use mathlib.Core.Path.{◌≡◌, refl, sym, ap, ap₂, ◌∙◌}
 use mathlib.Core.Bool.{Bool, cond}
 use mathlib.Core.List.{List, [], ◌∷◌, ◌++◌, map, append-nil}
-use mathlib.Core.Option.{Option, none, some}
 use Prim.Native.Nat.{ℕ, suc, ◌+◌, ◌-◌, ◌≤◌, ◌<◌}
 use native.Mathlib.Numerals.{add-one}
 use native.Mathlib.Omega.{arith}
@@ -43,23 +43,23 @@ module _ (m : ℕ) (takers : List ℕ) (hm : m ≤ 64) (long : m ≤ length take
 
   T-at : (j : ℕ) → j < m → drop j T ≡ row_or (get_or takers j 0) ∷ drop (j + 1) T
   T-at j h =
-      drop-cons T j none (rw T-long h)
-      ∙ ap₂ (λ (o : Option ℕ) (k : ℕ). o ∷ drop k T) (map_at row_or (take m takers) j 0 none (rw (length-take-le m takers long) h) ∙ ap row_or (get_or-take m takers j 0 h)) (sym (add-one j))
+      drop-cons T j None (rw T-long h)
+      ∙ ap₂ (λ (o : Option ℕ) (k : ℕ). o ∷ drop k T) (map_at row_or (take m takers) j 0 None (rw (length-take-le m takers long) h) ∙ ap row_or (get_or-take m takers j 0 h)) (sym (add-one j))
 
   T-end : drop m T ≡ []
   T-end = ap (λ (k : ℕ). drop k T) (sym T-long) ∙ drop-length T
 
   -- ---- the column of a row
   module _ (i : ℕ) (hi : i < 64) where
-    step : (j : ℕ) → j < m → column_of i j (drop j T) ≡ cond (eqb (get_or takers j 0) i) (some j) (column_of i (j + 1) (drop (j + 1) T))
+    step : (j : ℕ) → j < m → column_of i j (drop j T) ≡ cond (eqb (get_or takers j 0) i) (Some j) (column_of i (j + 1) (drop (j + 1) T))
     unfolding column_of
-    step j h = ap (column_of i j) (T-at j h) ∙ ap₂ (λ (b : Bool) (k : ℕ). cond b (some j) (column_of i k (drop (j + 1) T))) (label_bears i (get_or takers j 0) hi) (sym (add-one j))
+    step j h = ap (column_of i j) (T-at j h) ∙ ap₂ (λ (b : Bool) (k : ℕ). cond b (Some j) (column_of i k (drop (j + 1) T))) (label_bears i (get_or takers j 0) hi) (sym (add-one j))
 
     pub column_here : (j : ℕ) → j < m → column_of i j (drop j T) ≡ column_of i 0 T → get_or takers j 0 ≡ i → ColumnFound T m i j
     column_here j h q e = record { within = omega arith; is = sym q ∙ step j h ∙ rw (eq-eqb (get_or takers j 0) i e, lt-ltb j m h) }
 
     pub column_next : (j : ℕ) → j < m → column_of i j (drop j T) ≡ column_of i 0 T → (get_or takers j 0 ≡ i → ⊥) → column_of i (j + 1) (drop (j + 1) T) ≡ column_of i 0 T
-    column_next j h q n = sym (step j h ∙ ap (λ (b : Bool). cond b (some j) (column_of i (j + 1) (drop (j + 1) T))) (ne_eqb (get_or takers j 0) i n)) ∙ q
+    column_next j h q n = sym (step j h ∙ ap (λ (b : Bool). cond b (Some j) (column_of i (j + 1) (drop (j + 1) T))) (ne_eqb (get_or takers j 0) i n)) ∙ q
 
     pub column_none : column_of i m (drop m T) ≡ column_of i 0 T → ColumnFound T m i m
     unfolding column_of
@@ -88,13 +88,13 @@ module _ (m : ℕ) (takers : List ℕ) (hm : m ≤ 64) (long : m ≤ length take
     pub freeing_skip : get_or takers j 0 < 64 → Freeing (j + 1) free k
     unfolding free_at
     freeing_skip q =
-        let e : free_columns j (drop j T) ≡ free_columns (j + 1) (drop (j + 1) T) = next ∙ ap (λ (b : Bool). free_at j (cond b (some (get_or takers j 0)) none) (free_columns (j + 1) (drop (j + 1) T))) (lt-ltb (get_or takers j 0) 64 q) in
+        let e : free_columns j (drop j T) ≡ free_columns (j + 1) (drop (j + 1) T) = next ∙ ap (λ (b : Bool). free_at j (cond b (Some (get_or takers j 0)) None) (free_columns (j + 1) (drop (j + 1) T))) (lt-ltb (get_or takers j 0) 64 q) in
         record { l = f.l; rest = ap (λ (t : List ℕ). f.l ++ t) (sym e) ∙ f.rest; free_is = f.free_is; count = f.count; few = let a = f.few in omega arith }
 
     pub freeing_take : 64 ≤ get_or takers j 0 → Freeing (j + 1) (set free k j) (k + 1)
     unfolding free_at
     freeing_take q =
-        let e : free_columns j (drop j T) ≡ j ∷ free_columns (j + 1) (drop (j + 1) T) = next ∙ ap (λ (b : Bool). free_at j (cond b (some (get_or takers j 0)) none) (free_columns (j + 1) (drop (j + 1) T))) (le-ltb (get_or takers j 0) 64 q) in
+        let e : free_columns j (drop j T) ≡ j ∷ free_columns (j + 1) (drop (j + 1) T) = next ∙ ap (λ (b : Bool). free_at j (cond b (Some (get_or takers j 0)) None) (free_columns (j + 1) (drop (j + 1) T))) (le-ltb (get_or takers j 0) 64 q) in
         let a = f.few in
         record {
           l = f.l ++ (j ∷ []);
@@ -148,7 +148,7 @@ module _ (T : List (Option ℕ)) (n m : ℕ) where
     pub listing_pair : (j : ℕ) → ColumnFound T m i j → j < m → Listing (i + 1) (set a k i) (set b k j) c (k + 1) left
     unfolding pair_at free_at
     listing_pair j f q =
-        let e : column_of i 0 T ≡ some j = f.is ∙ ap (λ (x : Bool). cond x (some j) none) (lt-ltb j m q) in
+        let e : column_of i 0 T ≡ Some j = f.is ∙ ap (λ (x : Bool). cond x (Some j) None) (lt-ltb j m q) in
         let x = pair_of i j in
         let pn : pairs_from T i (n - i) ≡ x ∷ pairs_from T (i + 1) (n - (i + 1)) = pairs_next ∙ ap (λ (o : Option ℕ). pair_at i o (pairs_from T (i + 1) (n - (i + 1)))) e in
         let fn : free_rows T i (n - i) ≡ free_rows T (i + 1) (n - (i + 1)) = free_next ∙ ap (λ (o : Option ℕ). free_at i o (free_rows T (i + 1) (n - (i + 1)))) e in
@@ -170,7 +170,7 @@ module _ (T : List (Option ℕ)) (n m : ℕ) where
     pub listing_free : (j : ℕ) → ColumnFound T m i j → m ≤ j → Listing (i + 1) a b (set c left i) k (left + 1)
     unfolding pair_at free_at
     listing_free j f q =
-        let e : column_of i 0 T ≡ none = f.is ∙ ap (λ (x : Bool). cond x (some j) none) (le-ltb j m q) in
+        let e : column_of i 0 T ≡ None = f.is ∙ ap (λ (x : Bool). cond x (Some j) None) (le-ltb j m q) in
         let pn : pairs_from T i (n - i) ≡ pairs_from T (i + 1) (n - (i + 1)) = pairs_next ∙ ap (λ (o : Option ℕ). pair_at i o (pairs_from T (i + 1) (n - (i + 1)))) e in
         let fn : free_rows T i (n - i) ≡ i ∷ free_rows T (i + 1) (n - (i + 1)) = free_next ∙ ap (λ (o : Option ℕ). free_at i o (free_rows T (i + 1) (n - (i + 1)))) e in
         let all = t.all in

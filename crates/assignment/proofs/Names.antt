@@ -1,8 +1,8 @@
 -- The last row of each tree, and the names that rows and columns take from it.
+use Rattle.std.specs.Prelude.{None, Option, Some}
 use mathlib.Core.Path.{◌≡◌, refl, sym, ap, ◌∙◌}
 use mathlib.Core.Bool.{Bool, cond}
 use mathlib.Core.List.{List, map}
-use mathlib.Core.Option.{Option, none, some}
 use Prim.Native.Nat.{ℕ, zero, suc, ◌+◌, ◌-◌, ◌*◌, ◌≤◌, ◌<◌}
 use native.Mathlib.Decide.{ℕ_discrete, dec_lt}
 use native.Mathlib.Omega.{arith}
@@ -141,8 +141,8 @@ module _ (costs : List Float) (n m : ℕ) (hn : n ≤ 64) (size : length costs �
   row_label : (x : ℕ) → x < n → Λ x ≡ get_or s.of_rows x 0
   row_label x h = item_row n s x (rw N.rows_long h)
 
-  col_label : (j : ℕ) → Λ (n + j) ≡ or_item (n + j) (get_or s.of_columns j none)
-  col_label j = let e : n + j - n ≡ j = omega arith in item_col n s (n + j) (rw N.rows_long (omega arith)) (omega arith) ∙ ap (λ (k : ℕ). or_item (n + j) (get_or s.of_columns k none)) e
+  col_label : (j : ℕ) → Λ (n + j) ≡ or_item (n + j) (get_or s.of_columns j None)
+  col_label j = let e : n + j - n ≡ j = omega arith in item_col n s (n + j) (rw N.rows_long (omega arith)) (omega arith) ∙ ap (λ (k : ℕ). or_item (n + j) (get_or s.of_columns k None)) e
 
   module _ (par last : List ℕ) (r : ℕ) (hr : r < 128) (root : get_or par r 0 ≡ r) (t : LastRows Λ n par last) where
     -- where the group has a row l that bears its own name
@@ -157,21 +157,21 @@ module _ (costs : List Float) (n m : ℕ) (hn : n ≤ 64) (size : length costs �
     pub name_row : (x : ℕ) → x < n → Λ r ≡ Λ x → get_or last r 0 ≡ get_or s.of_rows x 0
     name_row x h e = named (get_or s.of_rows x 0) (N.row_low x h) (N.row_own x h) (e ∙ row_label x h)
 
-    pub name_col : (j : ℕ) → Λ r ≡ Λ (n + j) → row_or (get_or last r 0) ≡ get_or s.of_columns j none
-    name_col j e = go (get_or s.of_columns j none) refl
+    pub name_col : (j : ℕ) → Λ r ≡ Λ (n + j) → row_or (get_or last r 0) ≡ get_or s.of_columns j None
+    name_col j e = go (get_or s.of_columns j None) refl
       where
-        above : get_or s.of_columns j none ≡ none → get_or last r 0 < 64 → ⊥
+        above : get_or s.of_columns j None ≡ None → get_or last r 0 < 64 → ⊥
         above q l = let p = t.from r hr root l in omega (arith, N.row_low (get_or last r 0) p.0, p.0, sym (row_label (get_or last r 0) p.0) ∙ p.1 ∙ e ∙ col_label j ∙ ap (or_item (n + j)) q)
 
-        go : (o : Option ℕ) → get_or s.of_columns j none ≡ o → row_or (get_or last r 0) ≡ get_or s.of_columns j none
-        go none q = rw q (ap (λ (b : Bool). cond b (some (get_or last r 0)) none) (le-ltb (get_or last r 0) 64 (out (dec_lt (get_or last r 0) 64))))
+        go : (o : Option ℕ) → get_or s.of_columns j None ≡ o → row_or (get_or last r 0) ≡ get_or s.of_columns j None
+        go None q = rw q (ap (λ (b : Bool). cond b (Some (get_or last r 0)) None) (le-ltb (get_or last r 0) 64 (out (dec_lt (get_or last r 0) 64))))
           where
             out : Dec (get_or last r 0 < 64) → 64 ≤ get_or last r 0
             out (yes l) = absurd (above q l)
             out (no l) = omega arith
-        go (some l) q =
+        go (Some l) q =
             let z : get_or last r 0 ≡ l = named l (N.col_low j l q) (N.col_own j l q) (e ∙ col_label j ∙ ap (or_item (n + j)) q) in
-            ap row_or z ∙ ap (λ (b : Bool). cond b (some l) none) (lt-ltb l 64 (let b = N.col_low j l q in omega arith)) ∙ sym q
+            ap row_or z ∙ ap (λ (b : Bool). cond b (Some l) None) (lt-ltb l 64 (let b = N.col_low j l q in omega arith)) ∙ sym q
 
   -- ---- the whole lists
   pub all_rows : (names : List ℕ) → length names ≡ 64 → ((x : ℕ) → x < n → get_or names x 0 ≡ get_or s.of_rows x 0) → take n names ≡ s.of_rows
@@ -179,11 +179,11 @@ module _ (costs : List Float) (n m : ℕ) (hn : n ≤ 64) (size : length costs �
       let e : length (take n names) ≡ n = length-take-le n names (rw l hn) in
       ext_get_or 0 (take n names) s.of_rows (e ∙ sym N.rows_long) (λ i q. let b : i < n = rw e at q in get_or-take n names i 0 b ∙ h i b)
 
-  pub all_cols : (names : List ℕ) → length names ≡ 64 → m ≤ 64 → ((j : ℕ) → j < m → row_or (get_or names j 0) ≡ get_or s.of_columns j none) → map row_or (take m names) ≡ s.of_columns
+  pub all_cols : (names : List ℕ) → length names ≡ 64 → m ≤ 64 → ((j : ℕ) → j < m → row_or (get_or names j 0) ≡ get_or s.of_columns j None) → map row_or (take m names) ≡ s.of_columns
   all_cols names l hm h =
       let e : length (take m names) ≡ m = length-take-le m names (rw l hm) in
-      ext_get_or none (map row_or (take m names)) s.of_columns (length-map (take m names) row_or ∙ e ∙ sym N.cols_long)
-      (λ i q. let b : i < m = rw (length-map (take m names) row_or, e) at q in map_at row_or (take m names) i 0 none (rw e b) ∙ ap row_or (get_or-take m names i 0 b) ∙ h i b)
+      ext_get_or None (map row_or (take m names)) s.of_columns (length-map (take m names) row_or ∙ e ∙ sym N.cols_long)
+      (λ i q. let b : i < m = rw (length-map (take m names) row_or, e) at q in map_at row_or (take m names) i 0 None (rw e b) ∙ ap row_or (get_or-take m names i 0 b) ∙ h i b)
 
   -- the names as they are read off
   pub names_are : (par par1 rank last par2 rowNames par3 colNames : List ℕ) → m ≤ 64 → Labelled Λ par → Passed n par rank par1 last → ReadOff 0 n par1 rank last par2 rowNames → ReadOff n m par2 rank last par3 colNames → NamedBy s n m rowNames colNames

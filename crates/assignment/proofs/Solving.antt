@@ -2,7 +2,6 @@
 use mathlib.Core.Path.{◌≡◌, refl, sym, ap, ◌∙◌}
 use mathlib.Core.Bool.{Bool, true, false}
 use mathlib.Core.List.{List, [], map}
-use mathlib.Core.Option.{Option}
 use Prim.Native.Nat.{ℕ, zero, suc, ◌+◌, ◌*◌, ◌≤◌, ◌<◌}
 use native.Mathlib.Numerals.{add-one}
 use native.Mathlib.Nat.{mul-le-mul_left, mul-le-mul_right}
@@ -12,6 +11,7 @@ use lib.ListN.{get_or, length, take, drop}
 use lib.Seq.{drop-cons, drop-length}
 use lib.Ieee.{Float}
 use lib.Ieee.Scale.{finite}
+use Rattle.std.specs.Prelude.{Result, Ok, Err, is_ok, Option}
 use Rattle.number.specs.Reply.{Reply, refused, given, and_then}
 use Rattle.kuhn_munkres.specs.Binary64.{float}
 use Rattle.kuhn_munkres.specs.Square.{Square, entry}
@@ -24,14 +24,15 @@ use Rattle.kuhn_munkres.proofs.Kept.{of_found, rows_long}
 use Rattle.kuhn_munkres.proofs.Rows.{rows_count}
 use Rattle.hungarian.specs.Ends.{end_reply, run_reply, reply_of_run}
 use Rattle.hungarian.specs.Structs.{square_from}
-use Rattle.hungarian.specs.declared.Run.{Run}
+use Rattle.hungarian.specs.declared.RunError.{RunError}
+use Rattle.hungarian.specs.declared.RunError.TheVariants.{TooMany, Failed}
 use Rattle.hungarian.specs.declared.Shape.{Shape}
 use Rattle.hungarian.proofs.Replies.{checked}
 use Rattle.groups.specs.Picks.{ticks}
 use Rattle.groups.specs.Solvers.{own_reply}
 use Rattle.groups.proofs.Picking.{picked_long, picked_all, ticks_le}
 use Rattle.assignment.specs.Picks.{bears, group_row, group_table, GatheredIn}
-use Rattle.assignment.specs.Taking.{takers_of, Call, Room, Taken, GroupTaken, AllTaken}
+use Rattle.assignment.specs.Taking.{takers_of, reply_if, Call, Room, Taken, GroupTaken, AllTaken}
 use Rattle.assignment.proofs.Groupings.{table_is, unborne, no_column_lem, some_column, some_row, taken_is}
 
 -- ---- what the run ends with
@@ -60,9 +61,11 @@ not_eleven stopped e = let w : ◌≡◌ {A = ℕ} 11 10 = cc in omega arith
 not_eleven spent e = let w : ◌≡◌ {A = ℕ} 11 10 = cc in omega arith
 
 -- a run whose size is right ends as the steps do
-pub run_is : (costs : List Float) (q : Shape) → q.rows ≤ 64 → q.cols ≤ 64 → length costs ≡ q.rows * q.cols → (r r' : Run) (p : List ℕ) → r ≡ r' → reply_of_run r p ≡ run_reply costs q
-    → reply_of_run r' p ≡ end_reply (rows float (entry float (square_from costs q)) (q.rows + q.cols) (q.rows + q.cols))
-run_is costs q hr hc size r r' p e w = ap (λ (x : Run). reply_of_run x p) (sym e) ∙ w ∙ checked costs q hr hc size
+pub run_is : (costs : List Float) (q : Shape) → q.rows ≤ 64 → q.cols ≤ 64 → length costs ≡ q.rows * q.cols → (r : Result (Unit {0}) RunError) (p : List ℕ) → reply_of_run r p ≡ run_reply costs q
+    → reply_if (is_ok r) p ≡ end_reply (rows float (entry float (square_from costs q)) (q.rows + q.cols) (q.rows + q.cols))
+run_is costs q hr hc size (Ok u) p w = w ∙ checked costs q hr hc size
+run_is costs q hr hc size (Err TooMany) p w = absurd (not_eleven _ (w ∙ checked costs q hr hc size))
+run_is costs q hr hc size (Err Failed) p w = w ∙ checked costs q hr hc size
 
 module _ (costs : List Float) (n m : ℕ) (rowNames columnNames : List ℕ) (far rowCost columnCost : Float) (C : Call costs n m rowNames columnNames) (g : ℕ) (hg : g < n) where
   abbrev R : List (List Float)

@@ -1,6 +1,5 @@
 -- The labels of the definition as numbers of the items: rows first, then columns. What joining one row with its columns, one after the other, makes of them.
-use Rattle.std.specs.Prelude.{◌≡◌, Bool, false, cond, ◌&&◌, ◌||◌, List, map, ℕ, zero, suc, ◌+◌, ◌-◌, ◌≤◌, ◌<◌, get_or, length, take, eqb, ltb, Float}
-use Rattle.std.proofs.Math.Option.{Option, none, some}
+use Rattle.std.specs.Prelude.{◌≡◌, Bool, false, cond, ◌&&◌, ◌||◌, List, map, ℕ, zero, suc, ◌+◌, ◌-◌, ◌≤◌, ◌<◌, get_or, length, take, eqb, ltb, Float, None, Option, Some}
 use Rattle.std.specs.Float.{nan}
 use Rattle.std.specs.Float.Ieee.Scale.{finite}
 use Rattle.kuhn_munkres.specs.Groups.{Labels, labels}
@@ -32,12 +31,12 @@ pub record RowJoined (costs : List Float) (at base i j : ℕ) (par rank par' ran
 
 -- a column's label, or its item where it is alone
 abbrev pub or_item : ℕ → Option ℕ → ℕ
-or_item x none = x
-or_item x (some l) = l
+or_item x None = x
+or_item x (Some l) = l
 
 -- the label of item x, of n rows, where s has those of the first rows and of the columns
 unfoldable pub item_label : ℕ → Labels → ℕ → ℕ
-item_label n s x = cond (ltb x (length s.of_rows)) (get_or s.of_rows x 0) (cond (ltb x n) x (or_item x (get_or s.of_columns (x - n) none)))
+item_label n s x = cond (ltb x (length s.of_rows)) (get_or s.of_rows x 0) (cond (ltb x n) x (or_item x (get_or s.of_columns (x - n) None)))
 
 -- each item its own parent
 pub record Alone (par : List ℕ) : Type 0 where
@@ -79,7 +78,7 @@ pub record ReadOff (base n : ℕ) (par rank last par' names : List ℕ) : Type 0
 
 -- 64 stands for no row
 abbrev pub row_or : ℕ → Option ℕ
-row_or x = cond (ltb x 64) (some x) none
+row_or x = cond (ltb x 64) (Some x) None
 
 -- the groups' names: of each row, and of each column
 pub record NamedBy (s : Labels) (n m : ℕ) (rowLabels columnLabels : List ℕ) : Type 0 where

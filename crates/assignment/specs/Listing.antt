@@ -1,14 +1,12 @@
 -- The answer's arrays: each list in front, zeros after it.
-use Rattle.std.specs.Prelude.{◌≡◌, cond, List, [], ◌∷◌, ◌++◌, map, ℕ, suc, ◌+◌, ◌-◌, ◌≤◌, length, take, replicate, eqb, ltb, Float}
-use Rattle.std.proofs.Math.Option.{Option, none, some}
+use Rattle.std.specs.Prelude.{◌≡◌, cond, List, [], ◌∷◌, ◌++◌, map, ℕ, suc, ◌+◌, ◌-◌, ◌≤◌, length, take, replicate, eqb, ltb, Float, Result, Ok, Err, IfOk, None, Option, Some}
 use Rattle.number.specs.Reply.{Reply, refused, given}
 use Rattle.lists.specs.Masks.{zipped}
 use Rattle.kuhn_munkres.specs.Assignment.{Pair, Pairs, column_of, pairs_from, free_rows, free_columns, assignment_reply}
 use Rattle.least.specs.Least.{LeastOnWholes}
-use Rattle.assignment.specs.Replies.{reply_of}
+use Rattle.assignment.specs.Replies.{number_of}
 use Rattle.assignment.specs.declared.Assignment.{Assignment}
-use Rattle.assignment.specs.declared.Assigned.{Assigned}
-use Rattle.assignment.specs.declared.Outcome.TheVariants.{Given}
+use Rattle.assignment.specs.declared.AssignmentError.{AssignmentError}
 
 unfoldable pub padded : List ℕ → List ℕ
 padded l = l ++ replicate (64 - length l) 0
@@ -65,18 +63,23 @@ pub record Once (n m : ℕ) (a : Pairs) : Type 0 where
   pub rows_ascend : Ascending 0 a.rows
   pub columns_ascend : Ascending 0 a.columns
 
+-- 01's number, or the pairs and lists that a struct holds
+abbrev pub pairs_reply : Result Assignment AssignmentError → Reply Pairs
+pairs_reply (Ok a) = given (pairs_in a)
+pairs_reply (Err why) = refused (number_of why)
+
 -- The whole reply for n rows and m columns: 01's number or the pairs and lists; every place of the arrays; each row and column once; and on whole costs the
 -- least total.
-pub record AssignmentAnswer (costs : List Float) (n m : ℕ) (rowCost columnCost : Float) (r : Assigned) : Type 0 where
-  pub is : reply_of r.outcome (pairs_in r.assignment) ≡ assignment_reply costs n m rowCost columnCost
-  pub whole : r.assignment ≡ assignment_for (assignment_reply costs n m rowCost columnCost)
-  pub once : r.outcome ≡ Given → Once n m (pairs_in r.assignment)
-  pub least : LeastOnWholes costs n m rowCost columnCost (reply_of r.outcome (pairs_in r.assignment))
+pub record AssignmentAnswer (costs : List Float) (n m : ℕ) (rowCost columnCost : Float) (r : Result Assignment AssignmentError) : Type 0 where
+  pub is : pairs_reply r ≡ assignment_reply costs n m rowCost columnCost
+  pub whole : IfOk r (λ a. a ≡ assignment_for (assignment_reply costs n m rowCost columnCost))
+  pub once : IfOk r (λ a. Once n m (pairs_in a))
+  pub least : LeastOnWholes costs n m rowCost columnCost (pairs_reply r)
 
 -- the column that row i takes is the r-th of m, or none where r is m
 pub record ColumnFound (takers : List (Option ℕ)) (m i r : ℕ) : Type 0 where
   pub within : r ≤ m
-  pub is : column_of i 0 takers ≡ cond (ltb r m) (some r) none
+  pub is : column_of i 0 takers ≡ cond (ltb r m) (Some r) None
 
 -- the pairs and the rows that are left, of n rows
 pub record RowsListed (takers : List (Option ℕ)) (n : ℕ) (pairRows pairColumns free : List ℕ) (count : ℕ) : Type 0 where

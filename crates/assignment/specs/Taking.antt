@@ -1,6 +1,5 @@
 -- The takers of columns as the code holds them: numbers, with 64 for no row.
-use Rattle.std.specs.Prelude.{◌≡◌, Bool, true, false, cond, List, map, ℕ, zero, suc, ◌+◌, ◌*◌, ◌≤◌, ◌<◌, get_or, length, take, eqb, ltb, Float}
-use Rattle.std.proofs.Math.Option.{Option}
+use Rattle.std.specs.Prelude.{◌≡◌, Bool, true, false, cond, List, map, ℕ, zero, suc, ◌+◌, ◌*◌, ◌≤◌, ◌<◌, get_or, length, take, eqb, ltb, Float, Option}
 use Rattle.std.specs.Float.Ieee.Scale.{finite}
 use Rattle.number.specs.Reply.{Reply, refused, given}
 use Rattle.lists.specs.First.{any}

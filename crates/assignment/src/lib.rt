@@ -7,17 +7,15 @@ pub mod table;
 mod takers;
 mod union_find;
 
-ghost use Rattle.std.specs.Prelude.{◌≡◌, [], length, replicate, ◌≤◌};
+ghost use Rattle.std.specs.Prelude.{◌≡◌, length, replicate, ◌≤◌};
 ghost use Rattle.kuhn_munkres.specs.Assignment.{takers_reply, pairs_of, assignment_reply};
 ghost use Rattle.assignment.specs.Listing.{assignment_of, AssignmentAnswer};
 ghost use Rattle.assignment.specs.Taking.{takers_of};
 ghost use Rattle.assignment.specs.Replies.{reply_of};
 
-// Whether the call is answered, or why it is declined: too many rows or columns, an unmatched cost that is not finite, a table of another size or a step that
-// is not finite.
-#[derive(Clone, Copy)]
-pub enum Outcome {
-    Given,
+// Why a call is declined: too many rows or columns, an unmatched cost that is not finite, a table of another size or a step that is not finite.
+#[derive(Clone, Copy, PartialEq, Eq)]
+pub enum AssignmentError {
     TooMany,
     NonFinite,
     Failed,
@@ -35,13 +33,6 @@ pub struct Assignment {
     pub unmatched_column_count: usize,
 }
 
-// The answer; where the call is declined the assignment is empty.
-#[derive(Clone, Copy)]
-pub struct Assigned {
-    pub outcome: Outcome,
-    pub assignment: Assignment,
-}
-
 // The row that takes each column, into `takers`, which has 64 everywhere at first.
 // A leaf, which the pairing of a batch calls too: its callers lend takers that they have just made. What a refusal leaves in them is open but for their number; no caller reads it.
 pub fn pair_columns(
@@ -51,29 +42,29 @@ pub fn pair_columns(
     row_cost: f64,
     column_cost: f64,
     takers: &mut [usize; 64],
-) -> Outcome
+) -> Result<(), AssignmentError>
     requires { takers.old ≡ replicate 64 64 }
     ensures { (reply_of result (takers_of columns takers.new) ≡ takers_reply costs.now rows columns row_cost column_cost) × (length takers.new ≡ 64) }
 {
     if rows > 64 {
-        return Outcome::TooMany;
+        return Err(AssignmentError::TooMany);
     }
     if columns > 64 {
-        return Outcome::TooMany;
+        return Err(AssignmentError::TooMany);
     }
     if !number::float::is_finite(row_cost) {
-        return Outcome::NonFinite;
+        return Err(AssignmentError::NonFinite);
     }
     if !number::float::is_finite(column_cost) {
-        return Outcome::NonFinite;
+        return Err(AssignmentError::NonFinite);
     }
     if costs.len() != rows * columns {
-        return Outcome::Failed;
+        return Err(AssignmentError::Failed);
     }
     if takers::pair_table(costs, rows, columns, row_cost, column_cost, takers) {
-        Outcome::Given
+        Ok(())
     } else {
-        Outcome::Failed
+        Err(AssignmentError::Failed)
     }
 }
 
@@ -107,22 +98,6 @@ fn listed(takers: &[usize; 64], rows: usize, columns: usize) -> Assignment
     }
 }
 
-// No pair, and none left.
-fn nothing() -> Assignment
-    ensures { result ≡ assignment_of (record { pairs = []; rows = []; columns = [] }) }
-{
-    let none = [0usize; 64];
-    Assignment {
-        pair_rows: none,
-        pair_columns: none,
-        pair_count: 0,
-        unmatched_rows: none,
-        unmatched_row_count: 0,
-        unmatched_columns: none,
-        unmatched_column_count: 0,
-    }
-}
-
 // The pairing of rows with columns for a table of costs, row after row: a cost that is not finite forbids its pair, and each row and each column that stays
 // alone has a cost of its own.
 pub fn linear_assignment(
@@ -131,33 +106,17 @@ pub fn linear_assignment(
     columns: usize,
     unmatched_row_cost: f64,
     unmatched_column_cost: f64,
-) -> Assigned
+) -> Result<Assignment, AssignmentError>
     ensures { AssignmentAnswer costs.now rows columns unmatched_row_cost unmatched_column_cost result }
 {
     let mut takers = [64usize; 64];
-    match pair_columns(
+    pair_columns(
         costs,
         rows,
         columns,
         unmatched_row_cost,
         unmatched_column_cost,
         &mut takers,
-    ) {
-        Outcome::Given => Assigned {
-            outcome: Outcome::Given,
-            assignment: listed(&takers, rows, columns),
-        },
-        Outcome::TooMany => Assigned {
-            outcome: Outcome::TooMany,
-            assignment: nothing(),
-        },
-        Outcome::NonFinite => Assigned {
-            outcome: Outcome::NonFinite,
-            assignment: nothing(),
-        },
-        Outcome::Failed => Assigned {
-            outcome: Outcome::Failed,
-            assignment: nothing(),
-        },
-    }
+    )?;
+    Ok(listed(&takers, rows, columns))
 }

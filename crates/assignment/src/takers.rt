@@ -89,11 +89,7 @@ fn solve_front(own: &[f64], shape: hungarian::Shape, p: &mut [usize; 129]) -> bo
         return true;
     }
     let end = shape.rows * shape.cols;
-    match hungarian::solve(&own[..end], shape, p) {
-        hungarian::Run::Matched => true,
-        hungarian::Run::TooMany => false,
-        hungarian::Run::Failed => false,
-    }
+    hungarian::solve(&own[..end], shape, p).is_ok()
 }
 
 // Group g, if there is one: its own table is solved, and its columns take their rows. False for a step that is not finite.

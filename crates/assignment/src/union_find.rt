@@ -9,6 +9,7 @@ pub fn find(parent: &mut [usize; 128], rank: &[usize; 128], x: usize) -> usize
     ensures { Found parent.old rank.now parent.new x result }
 {
     let mut y = x;
+    // The way up a tree: no index is counted.
     while parent[y] != y {
         let p = parent[y];
         let g = parent[p];

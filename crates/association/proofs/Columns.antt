@@ -1,14 +1,15 @@
 -- What is told of the columns is what the definitions tell of them. Assumes nothing.
+use Rattle.std.proofs.lemmas.Option.{slice_get-get_or, slice_get_past}
+use Rattle.std.specs.Prelude.{None, Option, Some, slice_get}
 use mathlib.Core.Path.{◌≡◌, refl, sym, ap, ◌∙◌, subst}
 use mathlib.Core.List.{List, [], ◌∷◌, map}
-use mathlib.Core.Option.{Option, none, some}
 use Prim.Native.Nat.{ℕ, zero, suc, ◌+◌, ◌*◌, ◌≤◌, ◌<◌}
 use native.Mathlib.Nat.{suc-mul, mul-le-mul_right}
 use native.Mathlib.Decide.{dec_lt}
 use native.Mathlib.Omega.{arith}
 use borrow.Author.Tests.{lt-ltb, le-ltb}
 use lib.Ieee.{Float, nan}
-use lib.ListN.{length, take, drop, get_or, get_elem?, replicate, length-map, length-replicate, get_or-replicate, get_or-append}
+use lib.ListN.{length, take, drop, get_or, replicate, length-map, length-replicate, get_or-replicate, get_or-append}
 use lib.Seq.{ext_get_or, get_or-take, get_or-drop, length-take-le}
 use Rattle.number.specs.Reply.{given}
 use Rattle.lists.specs.Lay.{lay}
@@ -51,16 +52,6 @@ zip_length f [] m e = refl
 zip_length f (x ∷ l) [] e = absurd (omega arith)
 zip_length f (x ∷ l) (y ∷ m) e = ap suc (zip_length f l m (omega arith))
 
-elem_in : {A : Type 0} (l : List A) (i : ℕ) (a : A) → i < length l → get_elem? l i ≡ some (get_or l i a)
-elem_in [] i a h = absurd (omega arith)
-elem_in (x ∷ l) zero a h = refl
-elem_in (x ∷ l) (suc i) a h = elem_in l i a (omega arith)
-
-elem_out : {A : Type 0} (l : List A) (i : ℕ) → length l ≤ i → get_elem? l i ≡ none
-elem_out [] i h = refl
-elem_out (x ∷ l) zero h = absurd (omega arith)
-elem_out (x ∷ l) (suc i) h = elem_out l i (omega arith)
-
 -- ---- a table and its takers
 
 module _ (rule : PairConfig) (all : List Row) (ids : List ℕ) (seen : List Detection) (n m : ℕ) (st : length all ≡ 64) (numbers : take n ids ≡ take n (ids_of all)) (sd : length seen ≡ 64) (hn : n ≤ 64) (hm : m ≤ 64) where
@@ -83,8 +74,8 @@ module _ (rule : PairConfig) (all : List Row) (ids : List ℕ) (seen : List Dete
     takers_long : length t ≡ m
     takers_long = length-map (take m takers) row_or ∙ length-take-le m takers (omega arith)
 
-    taker_at : (j : ℕ) → j < m → get_or t j none ≡ row_or (get_or takers j 0)
-    taker_at j h = map_at row_or (take m takers) j 0 none (let q = length-take-le m takers (omega arith) in omega arith) ∙ ap row_or (get_or-take m takers j 0 h)
+    taker_at : (j : ℕ) → j < m → get_or t j None ≡ row_or (get_or takers j 0)
+    taker_at j h = map_at row_or (take m takers) j 0 None (let q = length-take-le m takers (omega arith) in omega arith) ∙ ap row_or (get_or-take m takers j 0 h)
 
     -- whether a track took a detection
     free_same : (mates : List ℕ) → Mates t mates → (k : ℕ) → k < 64 → free (mate_of mates [] k) ≡ free (taken_by t ds k)
@@ -141,9 +132,9 @@ module _ (rule : PairConfig) (all : List Row) (ids : List ℕ) (seen : List Dete
       column_told i j k = by (dec_lt i n) (dec_lt i 64)
         where
           by : Dec (i < n) → Dec (i < 64) → pair_of rule rows (row_or i) (get_or ds j no_detection) ≡ pair_at ids n m costs i j
-          by (yes h) (yes g) = rw (lt-ltb i 64 g, lt-ltb i n h, elem_in rows i no_row (rw rows_long h), entry_at i j h k, number_at i h)
+          by (yes h) (yes g) = rw (lt-ltb i 64 g, lt-ltb i n h, slice_get-get_or rows i no_row (rw rows_long h), entry_at i j h k, number_at i h)
           by (yes h) (no g) = absurd (omega arith)
-          by (no h) (yes g) = let w : n ≤ i = omega arith in rw (lt-ltb i 64 g, le-ltb i n w, elem_out rows i (rw rows_long w))
+          by (no h) (yes g) = let w : n ≤ i = omega arith in rw (lt-ltb i 64 g, le-ltb i n w, slice_get_past rows i (rw rows_long w))
           by (no h) (no g) = let w : n ≤ i = omega arith in let v : 64 ≤ i = omega arith in rw (le-ltb i 64 v, le-ltb i n w)
 
       abbrev told : List Pair
@@ -165,7 +156,7 @@ module _ (rule : PairConfig) (all : List Row) (ids : List ℕ) (seen : List Dete
               let q = told_long in
               s.at j k
               ∙ sym (get_or-append told (drop (length told) (replicate 64 alone)) alone j (omega arith)
-              ∙ zip_at (pair_of rule rows) t ds j none no_detection alone (rw takers_long k) (rw seen_long k)
+              ∙ zip_at (pair_of rule rows) t ds j None no_detection alone (rw takers_long k) (rw seen_long k)
               ∙ ap (λ (o : Option ℕ). pair_of rule rows o (get_or ds j no_detection)) (taker_at j k)
               ∙ column_told (get_or takers j 0) j k)
           at j h (no k) = let q = told_long in s.rest j (omega arith) h ∙ sym (get_d_lay told (replicate 64 alone) j alone (omega arith) ∙ get_or-replicate 64 j alone alone h)
@@ -173,10 +164,10 @@ module _ (rule : PairConfig) (all : List Row) (ids : List ℕ) (seen : List Dete
 -- ---- the rows of tracks
 
 abbrev mapped : {A B : Type 0} → (A → B) → Option A → Option B
-mapped g none = none
-mapped g (some x) = some (g x)
+mapped g None = None
+mapped g (Some x) = Some (g x)
 
-elem_map : {A B : Type 0} (g : A → B) (l : List A) (i : ℕ) → get_elem? (map g l) i ≡ mapped g (get_elem? l i)
+elem_map : {A B : Type 0} (g : A → B) (l : List A) (i : ℕ) → slice_get (map g l) i ≡ mapped g (slice_get l i)
 elem_map g [] i = refl
 elem_map g (x ∷ l) zero = refl
 elem_map g (x ∷ l) (suc i) = elem_map g l i
@@ -184,13 +175,13 @@ elem_map g (x ∷ l) (suc i) = elem_map g l i
 module _ (rule : PairConfig) (ts : List Track3D) where
   pair_told : (o : Option Track3D) (d : Detection) → pair_with rule (mapped row_of o) d ≡ pair_for (match_of rule o d)
   unfolding match_of price_reply cost_reply
-  pair_told none d = refl
-  pair_told (some x) d = refl
+  pair_told None d = refl
+  pair_told (Some x) d = refl
 
   pair_is : (o : Option ℕ) (d : Detection) → pair_of rule (map row_of ts) o d ≡ pair_in (column_for rule ts o d)
   unfolding pair_of column_for
-  pair_is none d = refl
-  pair_is (some i) d = ap (λ (r : Option Row). pair_with rule r d) (elem_map row_of ts i) ∙ pair_told (get_elem? ts i) d
+  pair_is None d = refl
+  pair_is (Some i) d = ap (λ (r : Option Row). pair_with rule r d) (elem_map row_of ts i) ∙ pair_told (slice_get ts i) d
 
   -- the pairs are those of the columns of calls
   pub pairs_of_tracks : (t : List (Option ℕ)) (ds : List Detection) → zipped (pair_of rule (map row_of ts)) t ds ≡ map pair_in (zipped (column_for rule ts) t ds)

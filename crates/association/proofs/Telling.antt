@@ -1,16 +1,15 @@
--- What the loops that tell of the pairing have done by column k, or by track i. Assumes nothing.
+-- What the loops that tell of the pairing have done at the start, or by track i. Assumes nothing.
+use Rattle.std.specs.Prelude.{Option}
 use mathlib.Core.Path.{◌≡◌, refl, sym, ap, ◌∙◌, subst}
 use mathlib.Core.Bool.{Bool, true, false, cond}
 use mathlib.Core.List.{List, [], ◌∷◌, ◌++◌, append-nil, append_assoc}
-use mathlib.Core.Option.{Option}
-use Prim.Native.Nat.{ℕ, suc, ◌+◌, ◌*◌, ◌≤◌, ◌<◌}
+use Prim.Native.Nat.{ℕ, suc, ◌+◌, ◌≤◌, ◌<◌}
 use native.Mathlib.Numerals.{add-one}
-use native.Mathlib.Decide.{ℕ_discrete}
 use native.Mathlib.Omega.{arith}
 use borrow.Author.Tests.{lt-ltb, le-ltb}
-use lib.Ieee.{Float, nan}
-use lib.ListN.{length, take, get_or, set, replicate, length-set, length-append, length-map, length-replicate, get_or-replicate}
-use lib.Seq.{take-suc, length-take-le, get_or-set_same, get_or-set_other}
+use lib.Ieee.{Float}
+use lib.ListN.{length, take, get_or, set, replicate, length-append, length-map, length-replicate, get_or-replicate}
+use lib.Seq.{take-suc, length-take-le}
 use Rattle.lists.specs.Lay.{lay}
 use Rattle.lists.proofs.Laying.{set_lay}
 use Rattle.detections.specs.declared.Detection.{Detection}
@@ -19,50 +18,20 @@ use Rattle.kuhn_munkres.specs.Takers.{free}
 use Rattle.calls.specs.Numbers.{numbers_of}
 use Rattle.calls.specs.Update.{unmatched_from}
 use Rattle.association.specs.declared.Pair.{Pair}
-use Rattle.association.specs.Told.{mate_of, alone, pair_at, PairsTold, unmatched_of, Listed}
+use Rattle.association.specs.Told.{mate_of, alone, PairsTold, unmatched_of, Listed}
 
 -- ---- the pairs of the columns
 
-module _ (ids : List ℕ) (n m : ℕ) (costs : List Float) (takers : List ℕ) where
-  pub told_none : (pairs : List Pair) → pairs ≡ replicate 64 alone → PairsTold ids n m costs takers 0 pairs
-  told_none pairs e =
-      record {
-        long = ap length e ∙ length-replicate {A = Pair} 64 alone;
-        at = λ j h. absurd (under j h);
-        rest = λ j l h. ap (λ (q : List Pair). get_or q j alone) e ∙ get_or-replicate 64 j alone alone h;
-      }
-    where
-      under : (j : ℕ) → j < 0 → ⊥
-      under j l = omega arith
-
-  module _ (k : ℕ) (pairs : List Pair) (s : PairsTold ids n m costs takers k pairs) (h : k < 64) where
-    told_set : (p : Pair) → p ≡ pair_at ids n m costs (get_or takers k 0) k → PairsTold ids n m costs takers (k + 1) (set pairs k p)
-    told_set p e =
-        record {
-          long = length-set pairs k p ∙ s.long;
-          at = λ j l. at j l (ℕ_discrete j k);
-          rest = λ j l q. get_or-set_other pairs k j p alone (λ w. off j l w) ∙ s.rest j (omega arith) q;
-        }
-      where
-        off : (j : ℕ) → k + 1 ≤ j → j ≡ k → ⊥
-        off j l q = omega arith
-
-        at : (j : ℕ) → j < k + 1 → Dec (j ≡ k) → get_or (set pairs k p) j alone ≡ pair_at ids n m costs (get_or takers j 0) j
-        at j l (yes q) = subst (λ (i : ℕ). get_or (set pairs k p) i alone ≡ pair_at ids n m costs (get_or takers i 0) i) (sym q) (get_or-set_same pairs k p alone (rw s.long h) ∙ e)
-        at j l (no q) = get_or-set_other pairs k j p alone q ∙ s.at j (omega arith)
-
-    pub told_take : get_or takers k 0 < n → PairsTold ids n m costs takers (k + 1) (set pairs k (record { taken = true; track = get_or ids (get_or takers k 0) 0; cost = get_or costs (get_or takers k 0 * m + k) nan }))
-    told_take g = told_set (record { taken = true; track = get_or ids (get_or takers k 0) 0; cost = get_or costs (get_or takers k 0 * m + k) nan }) (rw (lt-ltb (get_or takers k 0) n g))
-
-    pub told_skip : n ≤ get_or takers k 0 → PairsTold ids n m costs takers (k + 1) pairs
-    told_skip g = record { long = s.long; at = λ j l. at j l (ℕ_discrete j k); rest = λ j l q. s.rest j (omega arith) q }
-      where
-        at : (j : ℕ) → j < k + 1 → Dec (j ≡ k) → get_or pairs j alone ≡ pair_at ids n m costs (get_or takers j 0) j
-        at j l (yes q) = subst (λ (i : ℕ). get_or pairs i alone ≡ pair_at ids n m costs (get_or takers i 0) i) (sym q) (s.rest k (omega arith) h ∙ rw (le-ltb (get_or takers k 0) n g))
-        at j l (no q) = s.at j (omega arith)
-
-  pub told_all : (k : ℕ) (pairs : List Pair) → k ≡ m → PairsTold ids n m costs takers k pairs → PairsTold ids n m costs takers m pairs
-  told_all k pairs e s = subst (λ (j : ℕ). PairsTold ids n m costs takers j pairs) e s
+pub told_none : (ids : List ℕ) (n m : ℕ) (costs : List Float) (takers : List ℕ) (pairs : List Pair) → pairs ≡ replicate 64 alone → PairsTold ids n m costs takers 0 pairs
+told_none ids n m costs takers pairs e =
+    record {
+      long = ap length e ∙ length-replicate {A = Pair} 64 alone;
+      at = λ j h. absurd (under j h);
+      rest = λ j l h. ap (λ (q : List Pair). get_or q j alone) e ∙ get_or-replicate 64 j alone alone h;
+    }
+  where
+    under : (j : ℕ) → j < 0 → ⊥
+    under j l = omega arith
 
 -- ---- the tracks that took nothing
 
@@ -125,9 +94,6 @@ module _ (took : ℕ → Option Detection) where
           slots = ap (λ (r : List ℕ). set r count x) s.slots ∙ ap (λ (k : ℕ). set (lay l (replicate 64 0)) k x) s.many ∙ set_lay l (replicate 64 0) x (omega (arith, s.many));
           many = let c = s.many in omega (arith, length-append l (x ∷ []));
         })
-
-  pub listed_all : (all : List ℕ) (i n : ℕ) (ids : List ℕ) (count : ℕ) → i ≡ n → Listed (unmatched_of took 0 (take i all)) ids count → Listed (unmatched_of took 0 (take n all)) ids count
-  listed_all all i n ids count e s = subst (λ (k : ℕ). Listed (unmatched_of took 0 (take k all)) ids count) e s
 
 -- of the tracks' numbers, it is what calls says of the tracks
 module _ (took : ℕ → Option Detection) where

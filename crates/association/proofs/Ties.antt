@@ -1,14 +1,14 @@
 -- What the arrays say in the terms of calls: which detection a track took, the columns, the numbers of the unmatched. Assumes nothing.
+use Rattle.std.specs.Prelude.{None, Option, Some, slice_get}
 use mathlib.Core.Path.{◌≡◌, refl, sym, ap, ◌∙◌, subst}
 use mathlib.Core.Bool.{Bool, true, false}
 use mathlib.Core.List.{List, [], ◌∷◌, map}
-use mathlib.Core.Option.{Option, none, some}
 use Prim.Native.Nat.{ℕ, suc, ◌+◌, ◌≤◌, ◌<◌, min}
 use native.Mathlib.Decide.{dec_lt}
 use native.Mathlib.Omega.{arith}
 use borrow.Author.Tests.{lt-ltb, le-ltb}
 use lib.Dec.{eqb}
-use lib.ListN.{length, take, get_or, get_elem?, replicate, length-map, length-take, length-replicate}
+use lib.ListN.{length, take, get_or, replicate, length-map, length-take, length-replicate}
 use lib.Seq.{get_or-take}
 use Rattle.number.specs.Reply.{Reply, given}
 use Rattle.lists.specs.Lay.{lay}
@@ -38,14 +38,14 @@ each_same f g i [] h = refl
 each_same f g i (x ∷ l) h = rw (h i x (omega arith), each_same f g (suc i) l (λ k y q. h k y (omega arith)))
 
 -- a detection that a track took is one of the batch, and has passed its checks
-pub chosen_passed : (t : List (Option ℕ)) (l : List Detection) (i : ℕ) (d : Detection) → detections_reply l ≡ given tt → taken_by t l i ≡ some d → detection_reply d ≡ given tt
+pub chosen_passed : (t : List (Option ℕ)) (l : List Detection) (i : ℕ) (d : Detection) → detections_reply l ≡ given tt → taken_by t l i ≡ Some d → detection_reply d ≡ given tt
 unfolding taken_by detections_reply
 chosen_passed [] l i d p e = absurd (let z : ◌≡◌ {A = ℕ} 0 1 = cc in omega arith)
 chosen_passed (o ∷ t) [] i d p e = absurd (let z : ◌≡◌ {A = ℕ} 0 1 = cc in omega arith)
-chosen_passed (none ∷ t) (x ∷ l) i d p e = let q = bound (detection_reply x) (λ u. detections_reply l) tt p in chosen_passed t l i d q.2 e
-chosen_passed (some r ∷ t) (x ∷ l) i d p e = let q = bound (detection_reply x) (λ u. detections_reply l) tt p in go (eqb i r) refl q.1 (chosen_passed t l i d q.2)
+chosen_passed (None ∷ t) (x ∷ l) i d p e = let q = bound (detection_reply x) (λ u. detections_reply l) tt p in chosen_passed t l i d q.2 e
+chosen_passed (Some r ∷ t) (x ∷ l) i d p e = let q = bound (detection_reply x) (λ u. detections_reply l) tt p in go (eqb i r) refl q.1 (chosen_passed t l i d q.2)
   where
-    go : (b : Bool) → eqb i r ≡ b → detection_reply x ≡ given tt → (taken_by t l i ≡ some d → detection_reply d ≡ given tt) → detection_reply d ≡ given tt
+    go : (b : Bool) → eqb i r ≡ b → detection_reply x ≡ given tt → (taken_by t l i ≡ Some d → detection_reply d ≡ given tt) → detection_reply d ≡ given tt
     go true w a f = let same : x ≡ d = (let z = rw (w, taken_by) at e in cc) in subst (λ (y : Detection). detection_reply y ≡ given tt) same a
     go false w a f = f (rw (w, taken_by) at e)
 
@@ -60,7 +60,7 @@ module _ (t : List (Option ℕ)) (mates : List ℕ) (seen : List Detection) (m :
       by : Dec (get_or mates i 0 < 64) → mate_of mates seen i ≡ taken_by t (take m seen) i
       by (yes g) =
           let inside : get_or mates i 0 < m = (let q = mate_in t mates (take m seen) s long few i h g in let r = length-take m seen in omega arith) in
-          rw (lt-ltb (get_or mates i 0) 64 g) (sym (mate_some t mates (take m seen) s long few i h no_detection g ∙ ap some (get_or-take m seen (get_or mates i 0) no_detection inside)))
+          rw (lt-ltb (get_or mates i 0) 64 g) (sym (mate_some t mates (take m seen) s long few i h no_detection g ∙ ap Some (get_or-take m seen (get_or mates i 0) no_detection inside)))
       by (no g) = let w : 64 ≤ get_or mates i 0 = omega arith in rw (le-ltb (get_or mates i 0) 64 w) (sym (mate_none t mates (take m seen) s long few i h w))
 
   -- so that a loop over the tracks by their mates is the definition's
@@ -71,14 +71,14 @@ module _ (t : List (Option ℕ)) (mates : List ℕ) (seen : List Detection) (m :
 -- ---- the pair of each detection
 
 back : (o : Option Match) → match_for (pair_for o) ≡ o
-back none = refl
-back (some m) = refl
+back None = refl
+back (Some m) = refl
 
 module _ (rule : PairConfig) (ts : List Track3D) where
   column_back : (o : Option ℕ) (d : Detection) → column_from (pair_in (column_for rule ts o d)) d ≡ column_for rule ts o d
   unfolding column_for
-  column_back none d = refl
-  column_back (some i) d = ap {B = Column} (λ (p : Option Match). record { pair = p; detection = d }) (back (match_of rule (get_elem? ts i) d))
+  column_back None d = refl
+  column_back (Some i) d = ap {B = Column} (λ (p : Option Match). record { pair = p; detection = d }) (back (match_of rule (slice_get ts i) d))
 
   columns_back : (t : List (Option ℕ)) (ds : List Detection) → zipped column_from (map pair_in (zipped (column_for rule ts) t ds)) ds ≡ zipped (column_for rule ts) t ds
   unfolding zipped

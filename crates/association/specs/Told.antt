@@ -1,14 +1,9 @@
 -- What the updates, the births and the report are told of the pairing, as the code holds it.
-use Rattle.std.specs.Prelude.{ℕ, suc, ◌+◌, ◌*◌, ◌≤◌, ◌<◌, ◌≡◌, true, false, cond, List, [], ◌∷◌, ltb, Float, length, take, get_or, replicate}
-use Rattle.std.proofs.Math.Option.{Option, none, some}
+use Rattle.std.specs.Prelude.{ℕ, suc, ◌+◌, ◌*◌, ◌≤◌, ◌<◌, ◌≡◌, true, false, cond, List, [], ◌∷◌, ltb, Float, length, take, get_or, replicate, None, Option, Some, slice_get}
 use Rattle.std.specs.Float.{nan}
-use Rattle.std.proofs.Math.ListN.{get_elem?}
 use Rattle.lists.specs.Masks.{zipped}
 use Rattle.matrix.specs.Matrix.{nought}
 use Rattle.lists.specs.Lay.{lay}
-use Rattle.detections.specs.declared.Class.TheVariants.{Unknown}
-use Rattle.detections.specs.declared.Velocity.TheVariants.{Unmeasured}
-use Rattle.detections.specs.declared.Score.TheVariants.{Unscored}
 use Rattle.detections.specs.declared.Detection.{Detection}
 use Rattle.detections.specs.declared.pairs.PairConfig.{PairConfig}
 use Rattle.kuhn_munkres.specs.Takers.{free}
@@ -21,7 +16,7 @@ use Rattle.association.specs.declared.Pair.{Pair}
 
 -- that of the track at i, by its place among the detections; 64 and more is none
 abbrev pub mate_of : List ℕ → List Detection → ℕ → Option Detection
-mate_of mates ds i = cond (ltb (get_or mates i 0) 64) (some (get_or ds (get_or mates i 0) (record { position = []; covariance = []; velocity = Unmeasured; class_label = Unknown; score = Unscored }))) none
+mate_of mates ds i = cond (ltb (get_or mates i 0) 64) (Some (get_or ds (get_or mates i 0) (record { position = []; covariance = []; velocity = None; class_label = None; score = None }))) None
 
 -- ---- the track of each detection
 
@@ -30,15 +25,15 @@ abbrev pub alone : Pair
 alone = record { taken = false; track = 0; cost = nought }
 
 abbrev pub pair_for : Option Match → Pair
-pair_for none = alone
-pair_for (some m) = record { taken = true; track = m.track; cost = m.cost }
+pair_for None = alone
+pair_for (Some m) = record { taken = true; track = m.track; cost = m.cost }
 
 abbrev pub pair_in : Column → Pair
 pair_in c = pair_for c.pair
 
 -- and back
 abbrev pub match_for : Pair → Option Match
-match_for p = cond p.taken (some (record { track = p.track; cost = p.cost })) none
+match_for p = cond p.taken (Some (record { track = p.track; cost = p.cost })) None
 
 abbrev pub column_from : Pair → Detection → Column
 column_from p d = record { pair = match_for p; detection = d }
@@ -48,12 +43,12 @@ columns_from m pairs ds = zipped column_from (take m pairs) (take m ds)
 
 -- The pair of a column, where a row takes it: `columnFor` of calls, of rows. 01, What demand 3 speaks of: "The cost is that pair's cost with prior penalty."
 abbrev pub pair_with : PairConfig → Option Row → Detection → Pair
-pair_with c none d = alone
-pair_with c (some r) d = record { taken = true; track = r.id; cost = entry_of (price_reply c r.target d) }
+pair_with c None d = alone
+pair_with c (Some r) d = record { taken = true; track = r.id; cost = entry_of (price_reply c r.target d) }
 
 unfoldable pub pair_of : PairConfig → List Row → Option ℕ → Detection → Pair
-pair_of c rows none d = alone
-pair_of c rows (some i) d = pair_with c (get_elem? rows i) d
+pair_of c rows None d = alone
+pair_of c rows (Some i) d = pair_with c (slice_get rows i) d
 
 -- column j, which the row at i takes: its track's number, and the cost that stands in the table
 abbrev pub pair_at : List ℕ → ℕ → ℕ → List Float → ℕ → ℕ → Pair

@@ -46,8 +46,7 @@ pub fn pairs_of(
     ensures { PairsTold ids.now n m costs.now takers.now m result }
 {
     let mut pairs = no_pairs();
-    let mut j: usize = 0;
-    while j < m {
+    for j in 0..m {
         let i = takers[j];
         if i < n {
             pairs[j] = Pair {
@@ -55,10 +54,7 @@ pub fn pairs_of(
                 track: ids[i],
                 cost: costs[i * m + j],
             };
-            j += 1;
-            continue;
         }
-        j += 1;
     }
     pairs
 }
@@ -71,15 +67,12 @@ pub fn unmatched_of(ids: &[u64; 64], n: usize, mates: &[usize; 64]) -> Unmatched
 {
     let mut left = [0u64; MAX_TRACKS];
     let mut count: usize = 0;
-    let mut i: usize = 0;
-    while i < n {
+    for i in 0..n {
         if mates[i] < MAX_OBSERVATIONS {
-            i += 1;
             continue;
         }
         left[count] = ids[i];
         count += 1;
-        i += 1;
     }
     Unmatched { ids: left, count }
 }

@@ -1,6 +1,7 @@
 -- A batch from a C program, and its report to it.
-use Rattle.std.specs.Prelude.{ℕ, map, get_or}
-use Rattle.std.specs.Float.{nan}
+use Rattle.std.specs.Float.Ieee.{of_bits}
+use Rattle.std.specs.Prelude.{ℕ, map, get_or, unwrap_or}
+use Rattle.std.specs.Float.{nan, binary64}
 use Rattle.detections.specs.declared.Detection.{Detection}
 use Rattle.types.specs.declared.batch.ObservationBatch3D.{ObservationBatch3D}
 use Rattle.types.specs.declared.batch.ObservationAssociation.{ObservationAssociation}
@@ -9,7 +10,7 @@ use Rattle.batch_records.specs.declared.PkDetection.{PkDetection}
 use Rattle.batch_records.specs.declared.PkBatch.{PkBatch}
 use Rattle.batch_records.specs.declared.PkAssociation.{PkAssociation}
 use Rattle.batch_records.specs.declared.PkReport.{PkReport}
-use Rattle.flags.specs.Flags.{velocity_of, class_of, score_of, has_f64, the_f64, has_track, the_track, outcome_to}
+use Rattle.flags.specs.Flags.{velocity_of, flagged, flag, outcome_to}
 
 unfoldable pub detection_of : PkDetection → Detection
 detection_of d =
@@ -17,8 +18,8 @@ detection_of d =
       position = d.position;
       covariance = d.covariance;
       velocity = velocity_of d.has_velocity (get_or d.velocity 0 nan) (get_or d.velocity 1 nan);
-      class_label = class_of d.has_class d.class_label;
-      score = score_of d.has_score d.score;
+      class_label = flagged d.has_class d.class_label;
+      score = flagged d.has_score d.score;
     }
 
 unfoldable pub batch_of : PkBatch → ObservationBatch3D
@@ -36,11 +37,11 @@ unfoldable pub association_to : ObservationAssociation → PkAssociation
 association_to a =
     record {
       observation_index = a.observation_index;
-      track_id = the_track a.track_id;
-      cost = the_f64 a.cost;
+      track_id = unwrap_or a.track_id 0;
+      cost = unwrap_or a.cost (of_bits binary64 0);
       outcome = outcome_to a.outcome;
-      has_track = has_track a.track_id;
-      has_cost = has_f64 a.cost;
+      has_track = flag a.track_id;
+      has_cost = flag a.cost;
       reserved = 0;
     }
 

@@ -67,8 +67,8 @@ pub fn detection_of(d: PkDetection) -> Detection
         position,
         covariance,
         velocity: flags::velocity_of(d.has_velocity, velocity[0], velocity[1]),
-        class_label: flags::class_of(d.has_class, d.class_label),
-        score: flags::score_of(d.has_score, d.score),
+        class_label: flags::flagged(d.has_class, d.class_label),
+        score: flags::flagged(d.has_score, d.score),
     }
 }
 
@@ -77,11 +77,9 @@ fn detections_of(b: PkBatch) -> [Detection; 64]
 {
     let first = b.detections[0];
     let mut out = [detection_of(first); 64];
-    let mut i: usize = 0;
-    while i < 64 {
+    for i in 0..64 {
         let x = b.detections[i];
         out[i] = detection_of(x);
-        i += 1;
     }
     out
 }
@@ -109,11 +107,11 @@ pub fn association_to(a: ObservationAssociation) -> PkAssociation
     let cost = a.cost;
     PkAssociation {
         observation_index: a.observation_index,
-        track_id: flags::the_track(track),
-        cost: flags::the_f64(cost),
+        track_id: track.unwrap_or(0),
+        cost: cost.unwrap_or(0.0),
         outcome: flags::outcome_to(outcome),
-        has_track: flags::has_track(track),
-        has_cost: flags::has_f64(cost),
+        has_track: flags::flag(track),
+        has_cost: flags::flag(cost),
         reserved: 0,
     }
 }
@@ -123,11 +121,9 @@ fn associations_to(r: BatchReport3D) -> [PkAssociation; 64]
 {
     let first = r.associations[0];
     let mut out = [association_to(first); 64];
-    let mut i: usize = 0;
-    while i < 64 {
+    for i in 0..64 {
         let x = r.associations[i];
         out[i] = association_to(x);
-        i += 1;
     }
     out
 }

@@ -1,7 +1,7 @@
 -- What the tests on the way of a batch's check say of its definition, and what a pass over its detections has found. Assumes nothing.
+use Rattle.std.specs.Prelude.{None, Option}
 use mathlib.Core.Path.{◌≡◌, refl, sym, ap, ◌∙◌, subst}
 use mathlib.Core.Bool.{Bool, true, false, not}
-use mathlib.Core.Option.{Option}
 use lib.IntN.{ℤ}
 use borrow.Author.Tests.{le-leb, lt-leb}
 use mathlib.Core.List.{List, [], ◌∷◌, ◌++◌}
@@ -12,9 +12,6 @@ use lib.ListN.{length, take, drop, get_or}
 use lib.Seq.{take-suc}
 use Rattle.number.specs.Reply.{Reply, refused, given, refuse_unless, and_then}
 use Rattle.detections.specs.declared.Detection.{Detection}
-use Rattle.detections.specs.declared.Velocity.TheVariants.{Unmeasured}
-use Rattle.detections.specs.declared.Class.TheVariants.{Unknown}
-use Rattle.detections.specs.declared.Score.TheVariants.{Unscored}
 use Rattle.detections.specs.Detection.{detection_reply}
 use Rattle.settings.specs.Frame.{same_frame}
 use Rattle.settings.specs.declared.frame.FrameName.{FrameName}
@@ -49,7 +46,7 @@ refused_all (x ∷ l) m n e = go (detection_reply x) e (refused_all l m n)
 
 -- what stands past the end of an array of detections
 abbrev pub no_detection : Detection
-no_detection = record { position = []; covariance = []; velocity = Unmeasured; class_label = Unknown; score = Unscored }
+no_detection = record { position = []; covariance = []; velocity = None; class_label = None; score = None }
 
 -- the first i are not refused
 pub Passed : List Detection → ℕ → Type 0
@@ -63,14 +60,14 @@ pub passed_all : (l : List Detection) (i : ℕ) → Passed l i → given tt ≡ 
 unfolding Passed
 passed_all l i p = sym p
 
-module _ (l : List Detection) (none : Detection) where
-  pub passed_more : (i : ℕ) → i < length l → Passed l i → detection_reply (get_or l i none) ≡ given tt → Passed l (i + 1)
+module _ (l : List Detection) (None : Detection) where
+  pub passed_more : (i : ℕ) → i < length l → Passed l i → detection_reply (get_or l i None) ≡ given tt → Passed l (i + 1)
   unfolding Passed
-  passed_more i h p e = rw (add-one, take-suc l i none h) (after_all (take i l) (get_or l i none) p ∙ e)
+  passed_more i h p e = rw (add-one, take-suc l i None h) (after_all (take i l) (get_or l i None) p ∙ e)
 
-  pub passed_not : (i n k : ℕ) → i < n → n ≤ length l → Passed l i → detection_reply (get_or l i none) ≡ refused k → detections_reply (take n l) ≡ refused k
+  pub passed_not : (i n k : ℕ) → i < n → n ≤ length l → Passed l i → detection_reply (get_or l i None) ≡ refused k → detections_reply (take n l) ≡ refused k
   unfolding Passed
-  passed_not i n k h m p e = subst (λ (x : List Detection). detections_reply x ≡ refused k) (split l (suc i) n (omega arith)) (refused_all (take (suc i) l) _ k (rw (take-suc l i none (omega arith)) (after_all (take i l) (get_or l i none) p ∙ e)))
+  passed_not i n k h m p e = subst (λ (x : List Detection). detections_reply x ≡ refused k) (split l (suc i) n (omega arith)) (refused_all (take (suc i) l) _ k (rw (take-suc l i None (omega arith)) (after_all (take i l) (get_or l i None) p ∙ e)))
     where
       split : (l : List Detection) (a b : ℕ) → a ≤ b → take a l ++ drop a (take b l) ≡ take b l
       split l zero b h = refl

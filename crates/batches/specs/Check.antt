@@ -1,7 +1,6 @@
 -- When a tracker refuses a batch before it looks at any track. 01, Batch: "11 over 64 detections; 2 frame differs; 3 time before the last; 4 sequence not above
 -- the sensor's last; then per detection 5 not finite (position, velocity, covariance), 6 not symmetric, 7 Cholesky fails; 11 a 33rd sensor."
-use Rattle.std.specs.Prelude.{Bool, false, not, List, [], ◌∷◌, ℕ, leb, ℤ, take}
-use Rattle.std.proofs.Math.Option.{Option, none, some}
+use Rattle.std.specs.Prelude.{Bool, false, not, List, [], ◌∷◌, ℕ, leb, ℤ, take, None, Option, Some}
 use Rattle.std.specs.Int.Signed.{lt_z}
 use Rattle.number.specs.Reply.{Reply, given, refuse_unless, and_then}
 use Rattle.settings.specs.Frame.{same_frame}
@@ -19,13 +18,13 @@ detections_reply (d ∷ l) = and_then (detection_reply d) (λ u. detections_repl
 
 -- "time before the last"; where no time was seen yet, none is before it
 abbrev pub is_before : Option ℤ → ℤ → Bool
-is_before none t = false
-is_before (some last) t = lt_z t last
+is_before None t = false
+is_before (Some last) t = lt_z t last
 
 -- "sequence not above the sensor's last"; a sensor that is new has none
 abbrev pub is_repeated : Option ℕ → ℕ → Bool
-is_repeated none q = false
-is_repeated (some last) q = leb q last
+is_repeated None q = false
+is_repeated (Some last) q = leb q last
 
 -- against the tracker's frame, its last time and its sensors with their sequence numbers
 unfoldable pub batch_reply : FrameName → Option ℤ → List SensorSequence → ObservationBatch3D → Reply (Unit {0})

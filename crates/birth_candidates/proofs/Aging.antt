@@ -1,4 +1,5 @@
 -- The candidates aged: what a loop that weeds them answers, at a refusal and at its end. Assumes nothing.
+use Rattle.std.specs.Prelude.{Err, Ok}
 use mathlib.Core.Path.{◌≡◌, sym, ap, ◌∙◌}
 use mathlib.Core.Bool.{Bool}
 use mathlib.Core.List.{List}
@@ -11,7 +12,6 @@ use Rattle.lists.proofs.Tables.{rows}
 use Rattle.lists.specs.Masks.{left_by}
 use Rattle.lists.specs.Each.{each}
 use Rattle.lists.proofs.Weeding.{Weeded}
-use Rattle.types.specs.declared.refusal.Outcome.TheVariants.{Done, Refused}
 use Rattle.types.specs.declared.refusal.Refusal.TheVariants.{TimestampOverflow}
 use Rattle.types.specs.declared.tracker.BirthCandidate.{BirthCandidate}
 use Rattle.calls.specs.Births.{stays, remaining}
@@ -35,11 +35,11 @@ module _ (timeout now : ℤ) (c : Candidates) (n : ℕ) (size : length c.items �
   unfolding remaining
   some_left keep e = rw (front, e)
 
-  pub age_refused : each (stays timeout now) (take n c.items) ≡ refused 8 → Ages c (record { outcome = Refused TimestampOverflow; candidates = c }) (remaining timeout now (list_of c))
+  pub age_refused : each (stays timeout now) (take n c.items) ≡ refused 8 → Ages c (record { outcome = Err TimestampOverflow; candidates = c }) (remaining timeout now (list_of c))
   age_refused e = record { is = sym (none_left e); left = ap (left_over c) (sym (none_left e)) }
 
   pub age_done : (items : List BirthCandidate) (kept : ℕ) → Weeded (stays timeout now) c.items items n kept
-      → Ages c (record { outcome = Done; candidates = record { items = items; count = kept } }) (remaining timeout now (list_of c))
+      → Ages c (record { outcome = Ok tt; candidates = record { items = items; count = kept } }) (remaining timeout now (list_of c))
   age_done items kept w =
       let l : List BirthCandidate = left_by w.keep (take n c.items) in
       let left : ◌≡◌ {A = Candidates} (record { items = items; count = kept }) (over c l) = (λ k. record { items = w.slots k; count = w.count k }) in

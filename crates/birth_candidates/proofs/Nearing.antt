@@ -1,8 +1,8 @@
 -- Candidates by themselves: whether one stays, and the nearest, one candidate after another. Assumes nothing.
+use Rattle.std.specs.Prelude.{None, Option, Some}
 use mathlib.Core.Path.{◌≡◌, sym, ap, ◌∙◌}
 use mathlib.Core.Bool.{Bool, true, false, true≢false}
 use mathlib.Core.List.{List, [], ◌∷◌, ◌++◌}
-use mathlib.Core.Option.{Option, none, some}
 use Prim.Native.Nat.{ℕ, suc, ◌+◌, ◌<◌}
 use native.Mathlib.Omega.{arith}
 use native.Mathlib.Numerals.{add-one}
@@ -47,16 +47,16 @@ module _ (radius : Float) (now : ℤ) (d : Detection) (i : ℕ) (x : BirthCandid
   pub farther : (best : Near) (o : Option Nearest) → same_time x.last_seen now ≡ false → lt far radius ≡ true → lt far best.distance ≡ false → best ≡ near_of radius o
       → best ≡ near_of radius (considered radius now d i x o)
   unfolding considered within better
-  farther best none e f g q = absurd (true≢false (sym f ∙ ap (λ (n : Near). lt far n.distance) (sym q) ∙ g))
-  farther best (some b) e f g q =
+  farther best None e f g q = absurd (true≢false (sym f ∙ ap (λ (n : Near). lt far n.distance) (sym q) ∙ g))
+  farther best (Some b) e f g q =
       let h : lt far b.distance ≡ false = ap (λ (n : Near). lt far n.distance) (sym q) ∙ g in
       rw (e, f, h) q
 
   pub closer : (best : Near) (o : Option Nearest) → same_time x.last_seen now ≡ false → lt far radius ≡ true → lt far best.distance ≡ true → best ≡ near_of radius o
       → record { at = i; distance = far } ≡ near_of radius (considered radius now d i x o)
   unfolding considered within better
-  closer best none e f g q = rw (e, f)
-  closer best (some b) e f g q =
+  closer best None e f g q = rw (e, f)
+  closer best (Some b) e f g q =
       let h : lt far b.distance ≡ true = ap (λ (n : Near). lt far n.distance) (sym q) ∙ g in
       rw (e, f, h)
 
@@ -72,7 +72,7 @@ module _ (radius : Float) (now : ℤ) (d : Detection) where
       rw z (nearest_snoc (suc i) (considered radius now d i y o) l x)
 
   pub nearest_more : (l : List BirthCandidate) (i : ℕ) (a : BirthCandidate) → i < length l
-      → nearest_from radius now d 0 none (take (i + 1) l) ≡ considered radius now d i (get_or l i a) (nearest_from radius now d 0 none (take i l))
+      → nearest_from radius now d 0 None (take (i + 1) l) ≡ considered radius now d i (get_or l i a) (nearest_from radius now d 0 None (take i l))
   nearest_more l i a h =
       let z : 0 + length (take i l) ≡ i = (let q = length-take-le i l (omega arith) in omega arith) in
-      rw (add-one, take-suc l i a h, nearest_snoc 0 none (take i l) (get_or l i a), z)
+      rw (add-one, take-suc l i a h, nearest_snoc 0 None (take i l) (get_or l i a), z)

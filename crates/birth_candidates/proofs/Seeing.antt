@@ -1,8 +1,8 @@
 -- What a sighting makes of the candidates. Assumes nothing.
+use Rattle.std.specs.Prelude.{None, Option, Some}
 use mathlib.Core.Path.{◌≡◌, refl, sym, ap, ◌∙◌}
 use mathlib.Core.Bool.{true, false}
 use mathlib.Core.List.{List, [], ◌∷◌, ◌++◌}
-use mathlib.Core.Option.{Option, none, some}
 use Prim.Native.Nat.{ℕ, min, ◌+◌, ◌-◌, ◌≤◌, ◌<◌}
 use native.Mathlib.Omega.{arith}
 use borrow.Author.Tests.{lt-ltb, le-ltb, le-leb, lt-leb}
@@ -40,14 +40,14 @@ module _ (c : Candidates) where
       → Sights c (record { sighting = Begins n; candidates = u }) (given (continued_at required (list_of c) k x))
   unfolding continued_at
   enough required k x n u e h q =
-      let s : Sighting = record { candidates = swap_remove k (list_of c); enough = some n } in
+      let s : Sighting = record { candidates = swap_remove k (list_of c); enough = Some n } in
       rw (← e, le-leb required n h) (seen (Begins n) u s q refl)
 
   pub not_yet : (required k : ℕ) (x : BirthCandidate) (u : Candidates) → x.sightings < required → u ≡ over c (set (list_of c) k x)
       → Sights c (record { sighting = Waits; candidates = u }) (given (continued_at required (list_of c) k x))
   unfolding continued_at
   not_yet required k x u h q =
-      let s : Sighting = record { candidates = set (list_of c) k x; enough = none } in
+      let s : Sighting = record { candidates = set (list_of c) k x; enough = None } in
       rw (lt-leb required x.sightings h) (seen Waits u s q refl)
 
   -- ---- by the places that are taken
@@ -81,14 +81,14 @@ module _ (c : Candidates) where
     -- ---- none is near
 
     pub first_seen : (radius : Float) (now : ℤ) (d : Detection) (required : ℕ) (u : Candidates) → n < 64 → u ≡ over c (list_of c ++ (first_sighting radius now d ∷ []))
-        → Sights c (record { sighting = Waits; candidates = u }) (sighted_by radius now d required (list_of c) none)
+        → Sights c (record { sighting = Waits; candidates = u }) (sighted_by radius now d required (list_of c) None)
     unfolding sighted_by
     first_seen radius now d required u h q =
         let e : ltb (length (list_of c)) 64 ≡ true = ap (λ (k : ℕ). ltb k 64) long ∙ lt-ltb n 64 h in
-        let s : Sighting = record { candidates = list_of c ++ (first_sighting radius now d ∷ []); enough = none } in
+        let s : Sighting = record { candidates = list_of c ++ (first_sighting radius now d ∷ []); enough = None } in
         rw e (seen Waits u s q refl)
 
-    pub no_room : (radius : Float) (now : ℤ) (d : Detection) (required : ℕ) → 64 ≤ n → Sights c (record { sighting = Full; candidates = c }) (sighted_by radius now d required (list_of c) none)
+    pub no_room : (radius : Float) (now : ℤ) (d : Detection) (required : ℕ) → 64 ≤ n → Sights c (record { sighting = Full; candidates = c }) (sighted_by radius now d required (list_of c) None)
     unfolding sighted_by
     no_room radius now d required h =
         let e : ltb (length (list_of c)) 64 ≡ false = ap (λ (k : ℕ). ltb k 64) long ∙ le-ltb n 64 h in
@@ -96,32 +96,32 @@ module _ (c : Candidates) where
 
     -- ---- the nearest that was found is near, or none is
 
-    module _ (radius : Float) (now : ℤ) (d : Detection) (required : ℕ) (r : Near) (answer : r ≡ near_of radius (nearest_from radius now d 0 none (take n c.items))) where
-      answered : r ≡ near_of radius (nearest_from radius now d 0 none (list_of c))
+    module _ (radius : Float) (now : ℤ) (d : Detection) (required : ℕ) (r : Near) (answer : r ≡ near_of radius (nearest_from radius now d 0 None (take n c.items))) where
+      answered : r ≡ near_of radius (nearest_from radius now d 0 None (list_of c))
       answered = rw front answer
 
-      near_by : (o : Option Nearest) → nearest_from radius now d 0 none (list_of c) ≡ o → r ≡ near_of radius o → r.at < n
+      near_by : (o : Option Nearest) → nearest_from radius now d 0 None (list_of c) ≡ o → r ≡ near_of radius o → r.at < n
           → sighted_by radius now d required (list_of c) o ≡ given (continued_at required (list_of c) r.at (seen_again radius now d (get_or c.items r.at no_candidate)))
       unfolding sighted_by
-      near_by none e q h = absurd (let z : r.at ≡ 64 = ap (λ (m : Near). m.at) q in omega (arith, taken))
-      near_by (some m) e q h =
+      near_by None e q h = absurd (let z : r.at ≡ 64 = ap (λ (m : Near). m.at) q in omega (arith, taken))
+      near_by (Some m) e q h =
           let z : r.at ≡ m.place = ap (λ (v : Near). v.at) q in
           let p = nearest_stands radius now d (list_of c) no_candidate m e in
           let f : get_or c.items r.at no_candidate ≡ m.candidate =
           sym (get_or-take n c.items r.at no_candidate h) ∙ ap (λ (l : List BirthCandidate). get_or l r.at no_candidate) (sym front) ∙ ap (λ (k : ℕ). get_or (list_of c) k no_candidate) z ∙ p.1 in
           rw (z, rw z at f)
 
-      pub found_near : r.at < n → sighted_for radius now d (some required) (list_of c) ≡ given (continued_at required (list_of c) r.at (seen_again radius now d (get_or c.items r.at no_candidate)))
+      pub found_near : r.at < n → sighted_for radius now d (Some required) (list_of c) ≡ given (continued_at required (list_of c) r.at (seen_again radius now d (get_or c.items r.at no_candidate)))
       unfolding sighted_for
-      found_near h = near_by (nearest_from radius now d 0 none (list_of c)) refl answered h
+      found_near h = near_by (nearest_from radius now d 0 None (list_of c)) refl answered h
 
-      none_by : (o : Option Nearest) → nearest_from radius now d 0 none (list_of c) ≡ o → r ≡ near_of radius o → n ≤ r.at → o ≡ none
-      none_by none e q h = refl
-      none_by (some m) e q h =
+      none_by : (o : Option Nearest) → nearest_from radius now d 0 None (list_of c) ≡ o → r ≡ near_of radius o → n ≤ r.at → o ≡ None
+      none_by None e q h = refl
+      none_by (Some m) e q h =
           let z : r.at ≡ m.place = ap (λ (v : Near). v.at) q in
           let p = nearest_stands radius now d (list_of c) no_candidate m e in
           absurd (omega (arith, p.0, long))
 
-      pub found_none : n ≤ r.at → sighted_for radius now d (some required) (list_of c) ≡ sighted_by radius now d required (list_of c) none
+      pub found_none : n ≤ r.at → sighted_for radius now d (Some required) (list_of c) ≡ sighted_by radius now d required (list_of c) None
       unfolding sighted_for
-      found_none h = ap (sighted_by radius now d required (list_of c)) (none_by (nearest_from radius now d 0 none (list_of c)) refl answered h)
+      found_none h = ap (sighted_by radius now d required (list_of c)) (none_by (nearest_from radius now d 0 None (list_of c)) refl answered h)

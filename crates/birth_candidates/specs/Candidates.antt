@@ -1,6 +1,5 @@
 -- Candidates as lists, and what the calls on them answer.
-use Rattle.std.specs.Prelude.{◌≡◌, Bool, true, false, List, [], pos, Float, take}
-use Rattle.std.proofs.Math.Option.{Option, none, some}
+use Rattle.std.specs.Prelude.{◌≡◌, Bool, List, [], pos, Float, take, None, Option, Some}
 use Rattle.number.specs.Reply.{Reply, refused, given}
 use Rattle.lists.specs.Table.{Table, over_table}
 use Rattle.types.specs.declared.tracker.BirthCandidate.{BirthCandidate}
@@ -8,8 +7,6 @@ use Rattle.calls.specs.Births.{Nearest, Sighting}
 use Rattle.types.specs.Refusals.{answered}
 use Rattle.birth_candidates.specs.declared.Candidates.{Candidates}
 use Rattle.birth_candidates.specs.declared.Aged.{Aged}
-use Rattle.birth_candidates.specs.declared.Stay.{Stay}
-use Rattle.birth_candidates.specs.declared.Stay.TheVariants.{Kept, Dropped, Overflow}
 use Rattle.birth_candidates.specs.declared.Near.{Near}
 use Rattle.birth_candidates.specs.declared.Sighted.{Sighted}
 use Rattle.birth_candidates.specs.declared.Sighting as code
@@ -31,10 +28,9 @@ abbrev pub left_over : Candidates → Reply (List BirthCandidate) → Candidates
 left_over c (refused n) = c
 left_over c (given l) = over c l
 
-abbrev pub stay_of : Stay → Reply Bool
-stay_of Kept = given true
-stay_of Dropped = given false
-stay_of Overflow = refused 8
+abbrev pub stay_of : Option Bool → Reply Bool
+stay_of (Some kept) = given kept
+stay_of None = refused 8
 
 -- the candidates c aged: the reply, and all that is left
 pub record Ages (c : Candidates) (r : Aged) (reply : Reply (List BirthCandidate)) : Type 0 where
@@ -43,16 +39,16 @@ pub record Ages (c : Candidates) (r : Aged) (reply : Reply (List BirthCandidate)
 
 -- no candidate so far is one at no place, as far as the radius
 abbrev pub near_of : Float → Option Nearest → Near
-near_of radius none = record { at = 64; distance = radius }
-near_of radius (some n) = record { at = n.place; distance = n.distance }
+near_of radius None = record { at = 64; distance = radius }
+near_of radius (Some n) = record { at = n.place; distance = n.distance }
 
 -- what code reads past the end of an array
 abbrev pub no_candidate : BirthCandidate
 no_candidate = record { position = []; last_seen = pos 0; sightings = 0 }
 
 abbrev pub sighting_of : code.Sighting → List BirthCandidate → Reply Sighting
-sighting_of Waits l = given (record { candidates = l; enough = none })
-sighting_of (Begins n) l = given (record { candidates = l; enough = some n })
+sighting_of Waits l = given (record { candidates = l; enough = None })
+sighting_of (Begins n) l = given (record { candidates = l; enough = Some n })
 sighting_of Full l = refused 11
 
 abbrev pub left_seen : Candidates → Reply Sighting → Candidates

@@ -1,18 +1,16 @@
 // Birth candidates by themselves, so that what stands behind their count in the state is left alone.
 #![tactic(auto)]
 
-ghost use Rattle.std.specs.Prelude.{◌≡◌, [], ◌∷◌, ◌++◌, ℕ, ◌≤◌, ◌<◌, min, Float, take, set, get_or};
-ghost use Rattle.std.proofs.Math.Option.{Option, none, some};
+ghost use Rattle.std.specs.Prelude.{◌≡◌, [], ◌∷◌, ◌++◌, ℕ, ◌≤◌, ◌<◌, min, Float, take, set, get_or, Option, None, Some};
 ghost use Rattle.number.specs.Reply.{given};
 ghost use Rattle.lists.specs.Table.{swap_remove};
 ghost use Rattle.calls.specs.Births.{Nearest, stays, remaining, considered, nearest_from, continued_at, seen_again, sighted_by, sighted_for};
 ghost use Rattle.birth_candidates.specs.Candidates.{stay_of, near_of, list_of, over, no_candidate, Ages, Sights};
 
 use detections::Detection;
-use number::time::Duration;
 use settings::Cartesian3DTrackerConfig;
 use types::MAX_CANDIDATES;
-use types::refusal::{Outcome, Refusal};
+use types::refusal::Refusal;
 use types::tracker::BirthCandidate;
 
 #[derive(Clone, Copy)]
@@ -23,16 +21,8 @@ pub struct Candidates {
 
 #[derive(Clone, Copy)]
 pub struct Aged {
-    pub outcome: Outcome,
+    pub outcome: Result<(), Refusal>,
     pub candidates: Candidates,
-}
-
-// Whether a candidate stays, or its age overflows.
-#[derive(Clone, Copy)]
-enum Stay {
-    Kept,
-    Dropped,
-    Overflow,
 }
 
 // What a sighting makes of the candidates: it waits, begins a track with so many sightings, or there is no room for it.
@@ -56,20 +46,12 @@ struct Near {
     distance: f64,
 }
 
-// Whether a candidate was seen within the timeout.
-fn judge(x: BirthCandidate, now: i64, timeout: i64) -> Stay
+// Whether a candidate was seen within the timeout; nothing where its age is one that an i64 does not hold.
+fn judge(x: BirthCandidate, now: i64, timeout: i64) -> Option<bool>
     ensures { stay_of result ≡ stays timeout now x }
 {
-    match number::time::checked_duration_since(now, x.last_seen) {
-        Duration::Nanoseconds(age) => {
-            if age <= timeout {
-                Stay::Kept
-            } else {
-                Stay::Dropped
-            }
-        }
-        Duration::Overflow => Stay::Overflow,
-    }
+    let age = number::time::checked_duration_since(now, x.last_seen)?;
+    Some(age <= timeout)
 }
 
 // Candidates not seen for longer than the timeout are gone.
@@ -79,27 +61,22 @@ pub fn age(c: Candidates, now: i64, timeout: i64) -> Aged
     let n = tables::taken(c.count, MAX_CANDIDATES);
     let mut items = c.items;
     let mut kept: usize = 0;
-    let mut i: usize = 0;
-    while i < n {
+    for i in 0..n {
         let x = items[i];
-        i += 1;
-        match judge(x, now, timeout) {
-            Stay::Kept => {
-                items[kept] = x;
-                kept += 1;
-            }
-            Stay::Dropped => {}
-            Stay::Overflow => {
-                return Aged {
-                    outcome: Outcome::Refused(Refusal::TimestampOverflow),
-                    candidates: c,
-                };
-            }
+        let Some(stays) = judge(x, now, timeout) else {
+            return Aged {
+                outcome: Err(Refusal::TimestampOverflow),
+                candidates: c,
+            };
+        };
+        if stays {
+            items[kept] = x;
+            kept += 1;
         }
     }
     let candidates = Candidates { items, count: kept };
     Aged {
-        outcome: Outcome::Done,
+        outcome: Ok(()),
         candidates,
     }
 }
@@ -138,17 +115,15 @@ fn nearest(
     radius: f64,
 ) -> Near
     requires { n ≤ 64 }
-    ensures { result ≡ near_of radius (nearest_from radius time d 0 none (take n items)) }
+    ensures { result ≡ near_of radius (nearest_from radius time d 0 None (take n items)) }
 {
     let mut best = Near {
         at: 64,
         distance: radius,
     };
-    let mut i: usize = 0;
-    while i < n {
+    for i in 0..n {
         let x = items[i];
         best = nearer(best, i, x, d, time, radius);
-        i += 1;
     }
     best
 }
@@ -213,7 +188,7 @@ fn proceed(c: Candidates, n: usize, k: usize, d: Detection, time: i64, required:
 // A detection that no candidate is near, seen for the first time.
 fn begin(c: Candidates, n: usize, d: Detection, time: i64) -> Sighted
     requires { n ≡ min c.count 64 }
-    ensures { (radius : Float) (required : ℕ) → Sights c result (sighted_by radius time d required (list_of c) none) }
+    ensures { (radius : Float) (required : ℕ) → Sights c result (sighted_by radius time d required (list_of c) None) }
 {
     let position = d.position;
     if n < 64 {
@@ -236,7 +211,7 @@ fn begin(c: Candidates, n: usize, d: Detection, time: i64) -> Sighted
 
 // A detection near a confirmed track, seen among the candidates.
 pub fn sight(c: Candidates, d: Detection, time: i64, radius: f64, required: u32) -> Sighted
-    ensures { Sights c result (sighted_for radius time d (some required) (list_of c)) }
+    ensures { Sights c result (sighted_for radius time d (Some required) (list_of c)) }
 {
     let n = tables::taken(c.count, MAX_CANDIDATES);
     let items = c.items;
@@ -254,10 +229,8 @@ pub fn laid(c: Candidates, kept: Candidates) -> Candidates
 {
     let n = tables::taken(kept.count, MAX_CANDIDATES);
     let mut items = c.items;
-    let mut i: usize = 0;
-    while i < n {
+    for i in 0..n {
         items[i] = kept.items[i];
-        i += 1;
     }
     Candidates { items, count: n }
 }

@@ -1,8 +1,8 @@
 -- What births leave alone: no track goes, and the sensors stay. Assumes nothing.
+use Rattle.std.specs.Prelude.{None, Option, Some}
 use mathlib.Core.Path.{◌≡◌, refl, sym, subst, ◌∙◌}
 use mathlib.Core.Bool.{Bool}
 use mathlib.Core.List.{List, [], ◌∷◌}
-use mathlib.Core.Option.{Option, none, some}
 use Prim.Native.Nat.{ℕ, ◌≤◌}
 use native.Mathlib.Omega.{arith}
 use lib.IntN.{ℤ}
@@ -30,8 +30,8 @@ pub record Grows (a b : State) : Type 0 where
 
 grows_with : (s : State) (l : List BirthCandidate) (o : Option Track3D) → Grows s (born_with s l o).state
 unfolding born_with
-grows_with s l none = record { tracks = omega arith; last = refl; sequences = refl }
-grows_with s l (some t) = record { tracks = omega (arith, length-append s.tracks (t ∷ [])); last = refl; sequences = refl }
+grows_with s l None = record { tracks = omega arith; last = refl; sequences = refl }
+grows_with s l (Some t) = record { tracks = omega (arith, length-append s.tracks (t ∷ [])); last = refl; sequences = refl }
 
 module _ (c : Cartesian3DTrackerConfig) (sensor : ℕ) (now : ℤ) where
   grows_low : (low near : Bool) (d : Detection) (s : State) (b : Born) → born_unless_low c sensor now low near d s ≡ given b → Grows s b.state
@@ -42,8 +42,8 @@ module _ (c : Cartesian3DTrackerConfig) (sensor : ℕ) (now : ℤ) where
   module _ (places : List Vector) where
     grows_one : (p : Option Match) (d : Detection) (s : State) (b : Born) → born_unless_taken c sensor now places p d s ≡ given b → Grows s b.state
     unfolding born_unless_taken
-    grows_one none d s b e = grows_low (low_score c d) (near_confirmed c places d) d s b e
-    grows_one (some m) d s b e = subst (λ (x : Born). Grows s x.state) (given_same _ b e) (record { tracks = omega arith; last = refl; sequences = refl })
+    grows_one None d s b e = grows_low (low_score c d) (near_confirmed c places d) d s b e
+    grows_one (Some m) d s b e = subst (λ (x : Born). Grows s x.state) (given_same _ b e) (record { tracks = omega arith; last = refl; sequences = refl })
 
     pub births_grow : (l : List Column) (s : State) (w : Births) → births_of c sensor now places l s ≡ given w → Grows s w.state
     births_grow [] s w e = subst (λ (x : Births). Grows s x.state) (sym (births_nil c sensor now places s w e)) (record { tracks = omega arith; last = refl; sequences = refl })

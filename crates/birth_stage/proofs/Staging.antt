@@ -1,4 +1,5 @@
 -- The births of a batch: old candidates go, and the detections are walked. Assumes nothing.
+use Rattle.std.specs.Prelude.{Err, Ok, Result}
 use mathlib.Core.Path.{◌≡◌, refl, sym, ap, ◌∙◌, subst}
 use mathlib.Core.List.{List, [], ◌∷◌, map}
 use Prim.Native.Nat.{ℕ}
@@ -9,8 +10,6 @@ use Rattle.lists.specs.Lay.{lay}
 use Rattle.lists.proofs.Laying.{take_lay}
 use Rattle.matrix.specs.Matrix.{Vector}
 use Rattle.types.specs.declared.batch.ObservationAssociation.{ObservationAssociation}
-use Rattle.types.specs.declared.refusal.Outcome.{Outcome}
-use Rattle.types.specs.declared.refusal.Outcome.TheVariants as outcome
 use Rattle.types.specs.declared.refusal.Refusal.{Refusal}
 use Rattle.types.specs.declared.tracker.Cartesian3DTracker.{Cartesian3DTracker}
 use Rattle.types.specs.Refusals.{number_of, answered}
@@ -45,25 +44,25 @@ candidates_in t = record { items = t.candidates; count = t.candidate_count }
 
 module _ (t : Cartesian3DTracker) (sensor : ℕ) (now : ℤ) (cols : List Column) (r : Aged)
     (ages : Ages (candidates_in t) r (remaining t.config.birth_candidate_timeout_ns now (list_of (candidates_in t)))) where
-  left_by_lem : (o : Outcome) → r.outcome ≡ o → remaining t.config.birth_candidate_timeout_ns now (candidates_of t) ≡ answered o (list_of r.candidates)
+  left_by_lem : (o : Result (Unit {0}) Refusal) → r.outcome ≡ o → remaining t.config.birth_candidate_timeout_ns now (candidates_of t) ≡ answered o (list_of r.candidates)
   unfolding candidates_of list_of
-  left_by_lem o e = sym ages.is ∙ ap (λ (q : Outcome). answered q (list_of r.candidates)) e
+  left_by_lem o e = sym ages.is ∙ ap (λ (q : Result (Unit {0}) Refusal). answered q (list_of r.candidates)) e
 
-  aged_births : r.outcome ≡ outcome.Done
+  aged_births : r.outcome ≡ Ok tt
       → births_after t.config sensor now cols (state_of t) ≡ births_of t.config sensor now (confirmed_places (tracks_of t)) cols (with_candidates (list_of r.candidates) (state_of t))
   unfolding births_after state_of
-  aged_births e = rw (left_by_lem outcome.Done e)
+  aged_births e = rw (left_by_lem (Ok tt) e)
 
-  pub births_done : (p : Places) (x : Walked) → r.outcome ≡ outcome.Done → p ≡ laid_out (confirmed_places (tracks_of t))
+  pub births_done : (p : Places) (x : Walked) → r.outcome ≡ Ok tt → p ≡ laid_out (confirmed_places (tracks_of t))
       → Walks t x (births_of t.config sensor now (places_of p) cols (with_candidates (list_of r.candidates) (state_of t))) → Walks t x (births_after t.config sensor now cols (state_of t))
   births_done p x e q w =
       subst (Walks t x)
       (ap (λ (l : List Vector). births_of t.config sensor now l cols (with_candidates (list_of r.candidates) (state_of t))) (placed p (confirmed_places (tracks_of t)) q) ∙ sym (aged_births e)) w
 
-  no_births : (why : Refusal) → r.outcome ≡ outcome.Refused why → births_after t.config sensor now cols (state_of t) ≡ refused (number_of why)
+  no_births : (why : Refusal) → r.outcome ≡ Err why → births_after t.config sensor now cols (state_of t) ≡ refused (number_of why)
   unfolding births_after state_of
-  no_births why e = rw (left_by_lem (outcome.Refused why) e)
+  no_births why e = rw (left_by_lem (Err why) e)
 
-  pub births_refused : (why : Refusal) (l : List ObservationAssociation) → r.outcome ≡ outcome.Refused why → l ≡ blanks
-      → Walks t (record { outcome = outcome.Refused why; tracker = t; associations = l }) (births_after t.config sensor now cols (state_of t))
+  pub births_refused : (why : Refusal) (l : List ObservationAssociation) → r.outcome ≡ Err why → l ≡ blanks
+      → Walks t (record { outcome = Err why; tracker = t; associations = l }) (births_after t.config sensor now cols (state_of t))
   births_refused why l e q = walk_refused t _ why l (no_births why e) q

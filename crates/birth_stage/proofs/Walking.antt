@@ -1,8 +1,8 @@
 -- The walk over the columns: one detection is a turn, and what the walk answers at a refusal and at its end. Assumes nothing.
+use Rattle.std.specs.Prelude.{Err, None, Ok, Option, Some}
 use mathlib.Core.Path.{◌≡◌, refl, sym, ap, ◌∙◌, subst}
 use mathlib.Core.Bool.{Bool, true, false, ◌&&◌}
 use mathlib.Core.List.{List, [], ◌∷◌, ◌++◌}
-use mathlib.Core.Option.{Option, none, some}
 use Prim.Native.Nat.{ℕ, zero, suc, min, ◌+◌, ◌-◌, ◌^◌, ◌≤◌, ◌<◌}
 use native.Mathlib.Omega.{arith}
 use borrow.Author.Tests.{ltb-true, lt-ltb}
@@ -21,17 +21,13 @@ use Rattle.number.proofs.Replies.{given_same, past_test, bound}
 use Rattle.settings.specs.declared.Cartesian3DTrackerConfig.{Cartesian3DTrackerConfig}
 use Rattle.matrix.specs.Matrix.{Vector}
 use Rattle.filter.specs.declared.KalmanFilter.{KalmanFilter}
-use Rattle.detections.specs.declared.Class.TheVariants.{Unknown}
-use Rattle.detections.specs.declared.Score.TheVariants.{Unscored}
-use Rattle.detections.specs.declared.Velocity.TheVariants.{Unmeasured}
 use Rattle.detections.specs.declared.Detection.{Detection}
 use Rattle.types.specs.declared.batch.ObservationAssociation.{ObservationAssociation}
 use Rattle.types.specs.declared.refusal.Refusal.{Refusal}
-use Rattle.types.specs.declared.refusal.Outcome.TheVariants as outcome
 use Rattle.types.specs.declared.track.Track3D.{Track3D}
 use Rattle.types.specs.declared.tracker.BirthCandidate.{BirthCandidate}
 use Rattle.types.specs.declared.tracker.Cartesian3DTracker.{Cartesian3DTracker}
-use Rattle.types.specs.States.{State, state_of, time_of, last_time_of, tracks_of, sequences_of, candidates_of, over_state}
+use Rattle.types.specs.States.{State, state_of, tracks_of, sequences_of, candidates_of, over_state}
 use Rattle.types.specs.Refusals.{number_of}
 use Rattle.calls.specs.Update.{Match, Column, moving}
 use Rattle.calls.specs.Births.{Fate, updated, spawned, unmatched, Born, Births, Sighting, sighted, born_filter, born_under, with_track, with_candidates, spawned_by, born_if_enough, born_or_sighted, born_unless_low, low_score, near_confirmed, born_unless_taken, births_of}
@@ -49,8 +45,8 @@ use Rattle.birth_stage.specs.Walk.{blanks, Walks}
 -- ---- one detection, apart from the state and in it
 
 unfoldable pub born_with : State → List BirthCandidate → Option Track3D → Born
-born_with s l none = record { state = with_candidates l s; fate = unmatched }
-born_with s l (some t) = record { state = with_track t (with_candidates l s); fate = spawned s.next }
+born_with s l None = record { state = with_candidates l s; fate = unmatched }
+born_with s l (Some t) = record { state = with_track t (with_candidates l s); fate = spawned s.next }
 
 module _ (config : Cartesian3DTrackerConfig) (sensor : ℕ) (now : ℤ) where
   abbrev tried : ℕ → Detection → State → Reply Track3D
@@ -68,7 +64,7 @@ module _ (config : Cartesian3DTrackerConfig) (sensor : ℕ) (now : ℤ) where
       go true (given f) = refl
 
   through : (r : Reply Track3D) (s : State) (l : List BirthCandidate) → and_then r (λ t. given (record { state = with_track t (with_candidates l s); fate = spawned s.next }))
-      ≡ and_then (and_then r (λ t. given (record { candidates = l; track = some t }))) (λ (o : One). given (born_with s o.candidates o.track))
+      ≡ and_then (and_then r (λ t. given (record { candidates = l; track = Some t }))) (λ (o : One). given (born_with s o.candidates o.track))
   unfolding born_with
   through (refused n) s l = refl
   through (given t) s l = refl
@@ -76,8 +72,8 @@ module _ (config : Cartesian3DTrackerConfig) (sensor : ℕ) (now : ℤ) where
   by_enough : (d : Detection) (s : State) (l : List BirthCandidate) (o : Option ℕ) → born_if_enough config sensor now d (with_candidates l s) o
       ≡ and_then (one_with d (length s.tracks) s.next (begin_with config now sensor) l o) (λ (o : One). given (born_with s o.candidates o.track))
   unfolding born_if_enough one_with born_with
-  by_enough d s l none = refl
-  by_enough d s l (some n) = spawned_tried n d (with_candidates l s) ∙ through (tried n d s) s l
+  by_enough d s l None = refl
+  by_enough d s l (Some n) = spawned_tried n d (with_candidates l s) ∙ through (tried n d s) s l
 
   by_sighting : (d : Detection) (s : State) (r : Reply Sighting) → and_then r (λ x. born_if_enough config sensor now d (with_candidates x.candidates s) x.enough)
       ≡ and_then (and_then r (λ x. one_with d (length s.tracks) s.next (begin_with config now sensor) x.candidates x.enough)) (λ (o : One). given (born_with s o.candidates o.track))
@@ -88,11 +84,11 @@ module _ (config : Cartesian3DTrackerConfig) (sensor : ℕ) (now : ℤ) where
       → born_unless_low config sensor now low near d s ≡ and_then (one_of config sensor now low near d (length s.tracks) s.next s.candidates) (λ o. given (born_with s o.candidates o.track))
   unfolding born_unless_low born_or_sighted born_if_enough one_of decided_of one_with
   one_born true near d s = unfold born_with in refl
-  one_born false false d s = by_enough d s s.candidates (some 1)
+  one_born false false d s = by_enough d s s.candidates (Some 1)
   one_born false true d s = by_sighting d s (sighted config now d s.candidates)
 
   -- a track that begins has a place and a number
-  pub begun_room : (low near : Bool) (d : Detection) (k id : ℕ) (l m : List BirthCandidate) (t : Track3D) → one_of config sensor now low near d k id l ≡ given (record { candidates = m; track = some t }) → (k < 64) × (id < 2 ^ 64 - 1)
+  pub begun_room : (low near : Bool) (d : Detection) (k id : ℕ) (l m : List BirthCandidate) (t : Track3D) → one_of config sensor now low near d k id l ≡ given (record { candidates = m; track = Some t }) → (k < 64) × (id < 2 ^ 64 - 1)
   unfolding one_of one_with tried_of
   begun_room low near d k id l m t e =
       let p = bound (decided_of config now low near d l) _ _ e in
@@ -103,12 +99,12 @@ module _ (config : Cartesian3DTrackerConfig) (sensor : ℕ) (now : ℤ) where
       both true false e = absurd (let z : ◌≡◌ {A = ℕ} 0 1 = cc in omega arith)
       both false b e = absurd (let z : ◌≡◌ {A = ℕ} 0 1 = cc in omega arith)
 
-      room : (l : List BirthCandidate) (o : Option ℕ) → one_with d k id (begin_with config now sensor) l o ≡ given (record { candidates = m; track = some t }) → (k < 64) × (id < 2 ^ 64 - 1)
-      room l none e =
-          let q : ◌≡◌ {A = One} (record { candidates = l; track = none }) (record { candidates = m; track = some t }) = given_same _ _ e in
-          let w : none ≡ some t = ap (λ (o : One). o.track) q in
+      room : (l : List BirthCandidate) (o : Option ℕ) → one_with d k id (begin_with config now sensor) l o ≡ given (record { candidates = m; track = Some t }) → (k < 64) × (id < 2 ^ 64 - 1)
+      room l None e =
+          let q : ◌≡◌ {A = One} (record { candidates = l; track = None }) (record { candidates = m; track = Some t }) = given_same _ _ e in
+          let w : None ≡ Some t = ap (λ (o : One). o.track) q in
           absurd (let z : ◌≡◌ {A = ℕ} 0 1 = cc in omega arith)
-      room l (some n) e =
+      room l (Some n) e =
           let p = bound (tried_of d k id n (begin_with config now sensor)) _ _ e in
           let q = past_test (ltb k 64 && ltb id (2 ^ 64 - 1)) 11 _ p.0 p.1 in
           let w = both (ltb k 64) (ltb id (2 ^ 64 - 1)) q.0 in
@@ -121,10 +117,10 @@ abbrev pub no_pair : Pair
 no_pair = record { taken = false; track = 0; cost = nan }
 
 abbrev pub no_detection : Detection
-no_detection = record { position = []; covariance = []; velocity = Unmeasured; class_label = Unknown; score = Unscored }
+no_detection = record { position = []; covariance = []; velocity = None; class_label = None; score = None }
 
 abbrev pub no_column : Column
-no_column = record { pair = none; detection = no_detection }
+no_column = record { pair = None; detection = no_detection }
 
 zip_at : {A B C : Type 0} (f : A → B → C) (l : List A) (m : List B) (j : ℕ) (a : A) (b : B) (c : C) → j < length l → j < length m → get_or (zipped f l m) j c ≡ f (get_or l j a) (get_or m j b)
 unfolding zipped
@@ -208,7 +204,7 @@ module _ (s : Cartesian3DTracker) (k : ℕ) (size : length s.tracks ≡ 64) (tak
 
   pub state_grown : (t : Track3D) → k < 64 → state_of (with_one t) ≡ with_track t (state_of s)
   unfolding state_of tracks_of sequences_of candidates_of
-  state_grown t h = let z : s.next_track_id + 1 ≡ suc s.next_track_id = omega arith in rw z (ap (λ (l : List Track3D). record { tracks = l; next = suc s.next_track_id; last = time_of s.last_time; sequences = sequences_of s; candidates = candidates_of s }) (grown t h))
+  state_grown t h = let z : s.next_track_id + 1 ≡ suc s.next_track_id = omega arith in rw z (ap (λ (l : List Track3D). record { tracks = l; next = suc s.next_track_id; last = s.last_time; sequences = sequences_of s; candidates = candidates_of s }) (grown t h))
 
 -- ---- a tracker that has grown: tracks behind those of t, and all other arrays as t has them
 
@@ -252,7 +248,7 @@ over_grown t s x g e =
       tracks = p i;
       track_count = length x.tracks;
       next_track_id = x.next;
-      last_time = last_time_of x.last;
+      last_time = x.last;
       sequences = lay x.sequences (g.sequences i);
       sequence_count = length x.sequences;
       candidates = lay x.candidates (g.candidates i);
@@ -307,7 +303,7 @@ module _ (config : Cartesian3DTrackerConfig) (sensor : ℕ) (now : ℤ) (places 
   unfolding born_unless_taken
   walking_taken s c l j p d k x w h g e q z =
       let m : Match = record { track = p.track; cost = p.cost } in
-      let e2 : (get_or cols j k).pair ≡ some m = ap (λ (v : Column). v.pair) e ∙ rw q in
+      let e2 : (get_or cols j k).pair ≡ Some m = ap (λ (v : Column). v.pair) e ∙ rw q in
       walking_more s s c c l j k (record { state = with_candidates (list_of c) (state_of s); fate = updated m }) x w h g (rw e2) refl w.arrays z
 
   module _ (s : Cartesian3DTracker) (c : Candidates) (l : List ObservationAssociation) (j : ℕ) (p : Pair) (d : Detection) (k : Column) (w : Walking s c l j) (h : j < length cols) (g : j < 64)
@@ -319,7 +315,7 @@ module _ (config : Cartesian3DTrackerConfig) (sensor : ℕ) (now : ℤ) (places 
         ≡ and_then one (λ o. given (born_with (with_candidates (list_of c) (state_of s)) o.candidates o.track))
     unfolding born_unless_taken state_of
     born =
-        let e2 : (get_or cols j k).pair ≡ none = ap (λ (v : Column). v.pair) e ∙ rw free in
+        let e2 : (get_or cols j k).pair ≡ None = ap (λ (v : Column). v.pair) e ∙ rw free in
         let e3 : (get_or cols j k).detection ≡ d = ap (λ (v : Column). v.detection) e in
         rw (e2, e3) (rw (tracks_count s n size taken) at (one_born config sensor now (low_score config d) (near_confirmed config places d) d (with_candidates (list_of c) (state_of s))))
 
@@ -327,11 +323,11 @@ module _ (config : Cartesian3DTrackerConfig) (sensor : ℕ) (now : ℤ) (places 
         ≡ and_then r (λ o. given (born_with (with_candidates (list_of c) (state_of s)) o.candidates o.track))
     born_by r q = born ∙ ap (λ (r : Reply One). and_then r (λ o. given (born_with (with_candidates (list_of c) (state_of s)) o.candidates o.track))) q
 
-    pub walking_alone : (u : Candidates) (x : ObservationAssociation) → one ≡ given (record { candidates = list_of u; track = none }) → x ≡ association_of j unmatched → Walking s u (set l j x) (j + 1)
+    pub walking_alone : (u : Candidates) (x : ObservationAssociation) → one ≡ given (record { candidates = list_of u; track = None }) → x ≡ association_of j unmatched → Walking s u (set l j x) (j + 1)
     unfolding born_with
     walking_alone u x q z = walking_more s s c u l j k (record { state = with_candidates (list_of u) (state_of s); fate = unmatched }) x w h g (born_by _ q) refl w.arrays z
 
-    pub walking_begun : (u : Candidates) (y : Track3D) (x : ObservationAssociation) → n < 64 → one ≡ given (record { candidates = list_of u; track = some y }) → x ≡ association_of j (spawned s.next_track_id)
+    pub walking_begun : (u : Candidates) (y : Track3D) (x : ObservationAssociation) → n < 64 → one ≡ given (record { candidates = list_of u; track = Some y }) → x ≡ association_of j (spawned s.next_track_id)
         → Walking (with_one s n size taken y) u (set l j x) (j + 1)
     unfolding born_with
     walking_begun u y x b q z =
@@ -344,13 +340,13 @@ module _ (config : Cartesian3DTrackerConfig) (sensor : ℕ) (now : ℤ) (places 
 -- ---- what the walk answers
 
 module _ (t : Cartesian3DTracker) (reply : Reply Births) where
-  pub walk_refused : (why : Refusal) (l : List ObservationAssociation) → reply ≡ refused (number_of why) → l ≡ blanks → Walks t (record { outcome = outcome.Refused why; tracker = t; associations = l }) reply
+  pub walk_refused : (why : Refusal) (l : List ObservationAssociation) → reply ≡ refused (number_of why) → l ≡ blanks → Walks t (record { outcome = Err why; tracker = t; associations = l }) reply
   walk_refused why l e q =
-      subst (Walks t (record { outcome = outcome.Refused why; tracker = t; associations = l })) (sym e) (record { answers = record { is = refl; whole = refl }; told = q })
+      subst (Walks t (record { outcome = Err why; tracker = t; associations = l })) (sym e) (record { answers = record { is = refl; whole = refl }; told = q })
 
   pub walk_done : (s u : Cartesian3DTracker) (kept : Candidates) (l : List ObservationAssociation) (w : Births) → reply ≡ given w → u ≡ over_state s (with_candidates (list_of kept) (state_of s))
-      → w.state ≡ with_candidates (list_of kept) (state_of s) → Grown t s → l ≡ lay (associations_from 0 w.fates) blanks → Walks t (record { outcome = outcome.Done; tracker = u; associations = l }) reply
+      → w.state ≡ with_candidates (list_of kept) (state_of s) → Grown t s → l ≡ lay (associations_from 0 w.fates) blanks → Walks t (record { outcome = Ok tt; tracker = u; associations = l }) reply
   walk_done s u kept l w e h a g q =
       let tracks : w.state.tracks ≡ tracks_of s = ap (λ (x : State). x.tracks) a ∙ (unfold state_of in refl) in
-      subst (Walks t (record { outcome = outcome.Done; tracker = u; associations = l })) (sym e)
+      subst (Walks t (record { outcome = Ok tt; tracker = u; associations = l })) (sym e)
       (record { answers = record { is = refl; whole = h ∙ ap (over_state s) (sym a) ∙ over_grown t s w.state g tracks }; told = q })

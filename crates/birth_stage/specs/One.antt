@@ -1,6 +1,5 @@
 -- One detection that no track took, apart from the state: what becomes of the candidates, and the track that it begins.
-use Rattle.std.specs.Prelude.{ℕ, ◌^◌, ◌-◌, ◌≡◌, Bool, true, false, ◌&&◌, List, ltb, ℤ}
-use Rattle.std.proofs.Math.Option.{Option, none, some}
+use Rattle.std.specs.Prelude.{ℕ, ◌^◌, ◌-◌, ◌≡◌, Bool, true, false, ◌&&◌, List, ltb, ℤ, None, Option, Some}
 use Rattle.number.specs.Reply.{Reply, refused, given, and_then, refuse_unless}
 use Rattle.settings.specs.declared.Cartesian3DTrackerConfig.{Cartesian3DTrackerConfig}
 use Rattle.detections.specs.declared.Detection.{Detection}
@@ -20,8 +19,8 @@ use Rattle.spawning.specs.Spawn.{moving_in, track_from}
 
 -- the candidates after it, and the sightings that begin a track: with a low score none, and 1 away from the confirmed tracks
 unfoldable pub decided_of : Cartesian3DTrackerConfig → ℤ → Bool → Bool → Detection → List BirthCandidate → Reply Sighting
-decided_of c now true near d l = given (record { candidates = l; enough = none })
-decided_of c now false false d l = given (record { candidates = l; enough = some 1 })
+decided_of c now true near d l = given (record { candidates = l; enough = None })
+decided_of c now false false d l = given (record { candidates = l; enough = Some 1 })
 decided_of c now false true d l = sighted c now d l
 
 abbrev pub begin_with : Cartesian3DTrackerConfig → ℤ → ℕ → Begin
@@ -54,15 +53,15 @@ pub record One : Type 0 where
   pub track : Option Track3D
 
 unfoldable pub one_with : Detection → ℕ → ℕ → Begin → List BirthCandidate → Option ℕ → Reply One
-one_with d k id b l none = given (record { candidates = l; track = none })
-one_with d k id b l (some sightings) = and_then (tried_of d k id sightings b) (λ t. given (record { candidates = l; track = some t }))
+one_with d k id b l None = given (record { candidates = l; track = None })
+one_with d k id b l (Some sightings) = and_then (tried_of d k id sightings b) (λ t. given (record { candidates = l; track = Some t }))
 
 unfoldable pub one_of : Cartesian3DTrackerConfig → ℕ → ℤ → Bool → Bool → Detection → ℕ → ℕ → List BirthCandidate → Reply One
 one_of c sensor now low near d k id l = and_then (decided_of c now low near d l) (λ x. one_with d k id (begin_with c now sensor) x.candidates x.enough)
 
 abbrev pub fated_of : Fated → Track3D → List BirthCandidate → Reply One
-fated_of Alone t l = given (record { candidates = l; track = none })
-fated_of Begun t l = given (record { candidates = l; track = some t })
+fated_of Alone t l = given (record { candidates = l; track = None })
+fated_of Begun t l = given (record { candidates = l; track = Some t })
 fated_of (Refused why) t l = refused (number_of why)
 
 abbrev pub left_one : Candidates → Reply One → Candidates
@@ -70,8 +69,8 @@ left_one c (refused n) = c
 left_one c (given o) = over c o.candidates
 
 abbrev pub track_or : Option Track3D → Track3D
-track_or none = blank_track
-track_or (some t) = t
+track_or None = blank_track
+track_or (Some t) = t
 
 abbrev pub track_one : Reply One → Track3D
 track_one (refused n) = blank_track

@@ -14,10 +14,9 @@ use association::Pair;
 use birth_candidates::Candidates;
 use detections::Detection;
 use one::Fated;
-use settings::optional::OptionalF64;
 use spawning::ruling::Places;
-use types::batch::{AssociatedTrack, ObservationAssociation, ObservationOutcome};
-use types::refusal::Outcome;
+use types::batch::{ObservationAssociation, ObservationOutcome};
+use types::refusal::Refusal;
 use types::tracker::Cartesian3DTracker;
 use types::{MAX_OBSERVATIONS, MAX_SEQUENCES, MAX_TRACKS};
 
@@ -25,7 +24,7 @@ pub mod one;
 
 #[derive(Clone, Copy)]
 pub struct Walked {
-    pub outcome: Outcome,
+    pub outcome: Result<(), Refusal>,
     pub tracker: Cartesian3DTracker,
     pub associations: [ObservationAssociation; MAX_OBSERVATIONS],
 }
@@ -35,9 +34,9 @@ pub fn alone(j: usize) -> ObservationAssociation
 {
     ObservationAssociation {
         observation_index: j,
-        track_id: AssociatedTrack::None,
+        track_id: None,
         outcome: ObservationOutcome::Unmatched,
-        cost: OptionalF64::None,
+        cost: None,
     }
 }
 
@@ -46,9 +45,9 @@ pub fn paired(j: usize, id: u64, cost: f64) -> ObservationAssociation
 {
     ObservationAssociation {
         observation_index: j,
-        track_id: AssociatedTrack::Id(id),
+        track_id: Some(id),
         outcome: ObservationOutcome::Updated,
-        cost: OptionalF64::Some(cost),
+        cost: Some(cost),
     }
 }
 
@@ -57,9 +56,9 @@ pub fn begun(j: usize, id: u64) -> ObservationAssociation
 {
     ObservationAssociation {
         observation_index: j,
-        track_id: AssociatedTrack::Id(id),
+        track_id: Some(id),
         outcome: ObservationOutcome::Spawned,
-        cost: OptionalF64::None,
+        cost: None,
     }
 }
 
@@ -101,38 +100,31 @@ pub fn walk(
     let mut associations = blanks;
     let mut s = t;
     let mut kept = c;
-    let mut j: usize = 0;
-    while j < n {
+    for j in 0..n {
         let p = pairs[j];
         if p.taken {
             associations[j] = paired(j, p.track, p.cost);
-            j += 1;
             continue;
         }
         let d = observations[j];
         let k = tables::taken(s.track_count, MAX_TRACKS);
         let id = s.next_track_id;
         let x = one::consider(kept, d, places, k, id, time, sensor, config);
-        let fate = x.fate;
-        let track = x.track;
-        let left = x.candidates;
-        match fate {
+        match x.fate {
             Fated::Alone => {
-                kept = left;
+                kept = x.candidates;
                 associations[j] = alone(j);
-                j += 1;
             }
             Fated::Begun => {
-                kept = left;
-                s.tracks[k] = track;
+                kept = x.candidates;
+                s.tracks[k] = x.track;
                 s.track_count = k + 1;
                 s.next_track_id = id + 1;
                 associations[j] = begun(j, id);
-                j += 1;
             }
             Fated::Refused(why) => {
                 return Walked {
-                    outcome: Outcome::Refused(why),
+                    outcome: Err(why),
                     tracker: t,
                     associations: blanks,
                 };
@@ -140,7 +132,7 @@ pub fn walk(
         }
     }
     Walked {
-        outcome: Outcome::Done,
+        outcome: Ok(()),
         tracker: settled(s, kept),
         associations,
     }
@@ -167,15 +159,15 @@ pub fn births(
     let outcome = aged.outcome;
     let candidates = aged.candidates;
     match outcome {
-        Outcome::Done => {
+        Ok(()) => {
             let places = spawning::ruling::confirmed_places(t);
             walk(t, candidates, places, observations, pairs, m, time, sensor)
         }
-        Outcome::Refused(why) => {
+        Err(why) => {
             let blank = alone(0);
             let associations = [blank; MAX_OBSERVATIONS];
             Walked {
-                outcome: Outcome::Refused(why),
+                outcome: Err(why),
                 tracker: t,
                 associations,
             }

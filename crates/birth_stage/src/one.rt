@@ -1,5 +1,5 @@
 // One detection that no track took: the candidate that it continues or leaves, the track that it begins.
-ghost use Rattle.std.specs.Prelude.{◌≡◌};
+ghost use Rattle.std.specs.Prelude.{◌≡◌, Err};
 ghost use Rattle.types.specs.Fresh.{blank_track};
 ghost use Rattle.calls.specs.Births.{low_score, near_confirmed};
 ghost use Rattle.birth_candidates.specs.Candidates.{list_of, over, Sights};
@@ -12,7 +12,7 @@ use settings::Cartesian3DTrackerConfig;
 use spawning::ruling::{Places, Ruling};
 use spawning::spawn::{Begin, Spawned};
 use types::MAX_CANDIDATES;
-use types::refusal::{Outcome, Refusal};
+use types::refusal::Refusal;
 use types::track::Track3D;
 
 // What becomes of a detection that no track took.
@@ -82,10 +82,10 @@ pub fn decide(
 }
 
 fn refuse(why: Refusal) -> Spawned
-    ensures { result ≡ record { outcome = Outcome.Refused why; track = blank_track } }
+    ensures { result ≡ record { outcome = Err why; track = blank_track } }
 {
     Spawned {
-        outcome: Outcome::Refused(why),
+        outcome: Err(why),
         track: types::tracker::blank_track(),
     }
 }
@@ -99,8 +99,8 @@ fn try_spawn(d: Detection, k: usize, id: u64, sightings: u32, b: Begin) -> Spawn
             let step = spawning::spawn::spawn(d, id, sightings, b);
             let outcome = step.outcome;
             match outcome {
-                Outcome::Done => step,
-                Outcome::Refused(why) => refuse(why),
+                Ok(()) => step,
+                Err(why) => refuse(why),
             }
         } else {
             refuse(Refusal::TooMany)
@@ -137,12 +137,12 @@ pub fn consider(
             let outcome = step.outcome;
             let track = step.track;
             match outcome {
-                Outcome::Done => Considered {
+                Ok(()) => Considered {
                     fate: Fated::Begun,
                     track,
                     candidates,
                 },
-                Outcome::Refused(why) => Considered {
+                Err(why) => Considered {
                     fate: Fated::Refused(why),
                     track,
                     candidates: c,

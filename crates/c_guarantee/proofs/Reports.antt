@@ -1,18 +1,19 @@
 -- What a C program reads in a report is what the report told. Assumes nothing.
+use Rattle.std.specs.Float.{binary64}
+use Rattle.std.specs.Float.Ieee.{of_bits}
+use Rattle.std.specs.Prelude.{None, Option, Some, unwrap_or}
 use mathlib.Core.Path.{◌≡◌, refl, ◌∙◌}
 use mathlib.Core.List.{List, [], ◌∷◌, map}
 use Prim.Native.Nat.{ℕ, zero, suc}
 use lib.ListN.{take}
-use Rattle.types.specs.declared.batch.AssociatedTrack.{AssociatedTrack}
-use Rattle.types.specs.declared.batch.AssociatedTrack.TheVariants as track
 use Rattle.types.specs.declared.batch.ObservationOutcome.{ObservationOutcome}
 use Rattle.types.specs.declared.batch.ObservationOutcome.TheVariants.{Updated, Spawned, Unmatched}
 use Rattle.types.specs.declared.batch.ObservationAssociation.{ObservationAssociation}
 use Rattle.types.specs.declared.batch.BatchReport3D.{BatchReport3D}
 use Rattle.types.specs.Batches.{Report, report_of, whole_report}
 use Rattle.types.proofs.Overs.{report_back}
-use Rattle.flags.specs.Flags.{has_track, the_track, outcome_to}
-use Rattle.flags.proofs.Back.{f64_back}
+use Rattle.flags.specs.Flags.{flag, outcome_to}
+use Rattle.flags.proofs.Back.{flag_back}
 use Rattle.batch_records.specs.Batches.{association_to, report_to}
 use Rattle.c_guarantee.specs.Reading.{outcome_of, associated_of, association_of, report_in}
 
@@ -21,9 +22,9 @@ outcome_back Updated = refl
 outcome_back Spawned = refl
 outcome_back Unmatched = refl
 
-associated_back : (o : AssociatedTrack) → associated_of (has_track o) (the_track o) ≡ o
-associated_back track.None = refl
-associated_back (track.Id n) = refl
+associated_back : (o : Option ℕ) → associated_of (flag o) (unwrap_or o 0) ≡ o
+associated_back None = refl
+associated_back (Some n) = refl
 
 association_back : (a : ObservationAssociation) → association_of (association_to a) ≡ a
 unfolding association_of association_to
@@ -31,7 +32,7 @@ association_back a = λ i. record {
   observation_index = a.observation_index;
   track_id = associated_back a.track_id i;
   outcome = outcome_back a.outcome i;
-  cost = f64_back a.cost i;
+  cost = flag_back a.cost (of_bits binary64 0) i;
 }
 
 associations_back : (n : ℕ) (l : List ObservationAssociation) → map association_of (take n (map association_to l)) ≡ take n l

@@ -1,9 +1,9 @@
 -- Demand 3 over what a C program holds, from the guarantee on lists: a record that calls left holds what the definitions make, and the tracks in it are the state's, each by its numbers. Assumes nothing.
+use Rattle.std.specs.Prelude.{None, Option, Some}
 use mathlib.Core.Path.{◌≡◌, refl, sym, ap, ◌∙◌, subst}
 use mathlib.Core.Bool.{Bool, true, false, cond}
 use mathlib.Core.List.Memᴰ
 use mathlib.Core.List.{List, [], ◌∷◌, map, Memᴰ}
-use mathlib.Core.Option.{Option, none, some}
 use mathlib.Core.Logic.{◌⊎◌, inl, inr}
 use Prim.Native.Nat.{ℕ, zero, suc, ◌<◌}
 use native.Mathlib.Omega.{arith}
@@ -78,8 +78,8 @@ module _ (u : PkTracker) (b : PkBatch) (x : Done) (g : Gives u b x) where
 -- ---- the tracks in C's record
 
 abbrev through : {A B : Type 0} → (A → B) → Option A → Option B
-through f none = none
-through f (some a) = some (f a)
+through f None = None
+through f (Some a) = Some (f a)
 
 -- the one of a number among tracks that were written for C
 first_written : (n : ℕ) (l : List Track3D) → first_of (λ x. eqb n x.id) (map track_to l) ≡ through track_to (numbers.track_of n l)
@@ -88,7 +88,7 @@ first_written n [] = refl
 first_written n (x ∷ l) = go (eqb n x.id) (first_written n l)
   where
     go : (p : Bool) → first_of (λ x. eqb n x.id) (map track_to l) ≡ through track_to (first_of (numbered n) l)
-        → cond p (some (track_to x)) (first_of (λ x. eqb n x.id) (map track_to l)) ≡ through track_to (cond p (some x) (first_of (numbered n) l))
+        → cond p (Some (track_to x)) (first_of (λ x. eqb n x.id) (map track_to l)) ≡ through track_to (cond p (Some x) (first_of (numbered n) l))
     go true e = refl
     go false e = e
 

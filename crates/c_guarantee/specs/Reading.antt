@@ -1,15 +1,12 @@
 -- What a C program reads in the records that the calls leave: the tracks, and what a report tells.
-use Rattle.std.specs.Prelude.{ℕ, cond, List, map, eqb, take}
-use Rattle.std.proofs.Math.Option.{Option}
+use Rattle.std.specs.Prelude.{ℕ, cond, List, map, eqb, take, None, Option, Some}
 use Rattle.lists.specs.First.{first_of}
-use Rattle.types.specs.declared.batch.AssociatedTrack.{AssociatedTrack}
-use Rattle.types.specs.declared.batch.AssociatedTrack.TheVariants as track
 use Rattle.types.specs.declared.batch.ObservationOutcome.{ObservationOutcome}
 use Rattle.types.specs.declared.batch.ObservationOutcome.TheVariants.{Updated, Spawned, Unmatched}
 use Rattle.types.specs.declared.batch.ObservationAssociation.{ObservationAssociation}
 use Rattle.types.specs.Batches.{Report}
 use Rattle.calls.specs.Process.{Done}
-use Rattle.flags.specs.Flags.{f64_of}
+use Rattle.flags.specs.Flags.{flagged}
 use Rattle.records.specs.declared.tracks.PkTrack.{PkTrack}
 use Rattle.records.specs.declared.tracker.PkTracker.{PkTracker}
 use Rattle.records.specs.Trackers.{pk_state}
@@ -28,8 +25,8 @@ track_in n t = first_of (λ x. eqb n x.id) (pk_tracks t)
 abbrev pub outcome_of : ℕ → ObservationOutcome
 outcome_of n = cond (eqb n 1) Updated (cond (eqb n 2) Spawned Unmatched)
 
-abbrev pub associated_of : ℕ → ℕ → AssociatedTrack
-associated_of has id = cond (eqb has 0) track.None (track.Id id)
+abbrev pub associated_of : ℕ → ℕ → Option ℕ
+associated_of has id = cond (eqb has 0) None (Some id)
 
 unfoldable pub association_of : PkAssociation → ObservationAssociation
 association_of a =
@@ -37,7 +34,7 @@ association_of a =
       observation_index = a.observation_index;
       track_id = associated_of a.has_track a.track_id;
       outcome = outcome_of a.outcome;
-      cost = f64_of a.has_cost a.cost;
+      cost = flagged a.has_cost a.cost;
     }
 
 unfoldable pub report_in : PkReport → Report

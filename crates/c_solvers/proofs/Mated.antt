@@ -1,12 +1,12 @@
 -- The whole reply of the call, from the assignment's answer. Assumes nothing.
 use mathlib.Core.Path.{◌≡◌, refl, sym, ap, ◌∙◌, subst}
 use mathlib.Core.List.{List}
-use mathlib.Core.Option.{Option}
 use Prim.Native.Nat.{ℕ, ◌≤◌, ◌<◌}
 use native.Mathlib.Omega.{arith}
 use borrow.Author.Tests.{lt-leb, le-leb}
 use lib.ListN.{length, take}
 use lib.Ieee.{Float}
+use Rattle.std.specs.Prelude.{Ok, Err, Option}
 use Rattle.number.specs.Reply.{Reply, refused, given, and_then}
 use Rattle.lists.specs.Lay.{lay}
 use Rattle.lists.proofs.Laying.{take_lay}
@@ -15,11 +15,10 @@ use Rattle.kuhn_munkres.specs.Assignment.{Pair, Pairs, pairs_of, pairs_from, tak
 use Rattle.least.specs.Least.{Pairing, total, allowed_in}
 use Rattle.least.proofs.Answer.{assignment_least}
 use Rattle.assignment.specs.Listing.{assignment_of, assignment_for, pairs_in, AssignmentAnswer}
-use Rattle.assignment.specs.Replies.{reply_of}
+use Rattle.assignment.specs.Replies.{number_of}
 use Rattle.assignment.specs.declared.Assignment.{Assignment}
-use Rattle.assignment.specs.declared.Assigned.{Assigned}
-use Rattle.assignment.specs.declared.Outcome.TheVariants.{Given}
-use Rattle.assignment.proofs.Answers.{few, takers_few, told}
+use Rattle.assignment.specs.declared.AssignmentError.{AssignmentError}
+use Rattle.assignment.proofs.Answers.{few, takers_few}
 use Rattle.c_solvers.specs.Mates.{mates_of, mates_reply, pairs_told, AssignmentCall, PairsHeld, MatesWritten}
 use Rattle.c_solvers.proofs.Walks.{length_mates, few_pairs}
 use Rattle.c_solvers.proofs.Told.{told_mates}
@@ -47,21 +46,20 @@ module _ (costs : List Float) (n m : ℕ) (rowCost columnCost : Float) where
       go (given t) q w = record { takers = t; is = cc; rows_few = (few costs n m rowCost columnCost t q).0; columns_few = takers_few costs n m rowCost columnCost t q }
 
   -- the answer's arrays hold the pairs of some takers
-  pub record Paired (r : Assigned) : Type 0 where
+  pub record Paired (a : Assignment) : Type 0 where
     pub takers : List (Option ℕ)
     pub is : reply ≡ given (pairs_of n takers)
-    pub held : PairsHeld takers n r.assignment.pair_rows r.assignment.pair_columns r.assignment.pair_count
-    pub count_few : r.assignment.pair_count ≤ 64
+    pub held : PairsHeld takers n a.pair_rows a.pair_columns a.pair_count
+    pub count_few : a.pair_count ≤ 64
     pub columns_few : length takers ≤ 64
 
-  pub paired : (r : Assigned) → AssignmentAnswer costs n m rowCost columnCost r → r.outcome ≡ Given → Paired r
+  pub paired : (a : Assignment) → AssignmentAnswer costs n m rowCost columnCost (Ok a) → Paired a
   unfolding pairs_of
-  paired r w o =
-      let g : given (pairs_in r.assignment) ≡ reply = told r.outcome Given (pairs_in r.assignment) reply o w.is in
-      let A = answered (pairs_in r.assignment) g in
-      let e : reply ≡ given (pairs_of n A.takers) = sym g ∙ ap given A.is in
-      let q : r.assignment ≡ assignment_of (pairs_of n A.takers) = w.whole ∙ ap assignment_for e in
-      let c : r.assignment.pair_count ≡ length (pairs_from A.takers 0 n) = ap (λ (x : Assignment). x.pair_count) q in
+  paired a w =
+      let A = answered (pairs_in a) w.is in
+      let e : reply ≡ given (pairs_of n A.takers) = sym w.is ∙ ap given A.is in
+      let q : a ≡ assignment_of (pairs_of n A.takers) = w.whole ∙ ap assignment_for e in
+      let c : a.pair_count ≡ length (pairs_from A.takers 0 n) = ap (λ (x : Assignment). x.pair_count) q in
       record {
         takers = A.takers;
         is = e;
@@ -91,8 +89,8 @@ module _ (costs : List Float) (n m : ℕ) (rowCost columnCost : Float) where
     pub call_short : length before < n → AssignmentCall costs n m rowCost columnCost 11 before before
     call_short h = declined 11 (unfold mates_reply in (rw (lt-leb n (length before) h)))
 
-    pub call_refused : (k : ℕ) (r : Assigned) → n ≤ length before → AssignmentAnswer costs n m rowCost columnCost r → ((p : Pairs) → reply_of r.outcome p ≡ refused k) → AssignmentCall costs n m rowCost columnCost k before before
-    call_refused k r h w o = declined k (enough h ∙ sym w.is ∙ o (pairs_in r.assignment))
+    pub call_refused : (why : AssignmentError) → n ≤ length before → AssignmentAnswer costs n m rowCost columnCost (Err why) → AssignmentCall costs n m rowCost columnCost (number_of why) before before
+    call_refused why h w = declined (number_of why) (enough h ∙ sym w.is)
 
     -- the mates tell the pairs that are given
     told_pairs : (t : List (Option ℕ)) (after : List ℕ) → length t ≤ 64 → after ≡ lay (mates_of (pairs_from t 0 n) n) before → pairs_told 0 (take n after) ≡ pairs_from t 0 n
@@ -103,9 +101,9 @@ module _ (costs : List Float) (n m : ℕ) (rowCost columnCost : Float) where
         ∙ ap (λ (x : List ℕ). pairs_told 0 x) (take_lay l before)
         ∙ told_mates t few n n (omega arith)
 
-    pub call_given : (r : Assigned) (after : List ℕ) → n ≤ length before → Paired r → MatesWritten n r.assignment.pair_rows r.assignment.pair_columns r.assignment.pair_count before after → AssignmentCall costs n m rowCost columnCost 0 before after
+    pub call_given : (a : Assignment) (after : List ℕ) → n ≤ length before → Paired a → MatesWritten n a.pair_rows a.pair_columns a.pair_count before after → AssignmentCall costs n m rowCost columnCost 0 before after
     unfolding pairs_of
-    call_given r after h p w =
+    call_given found after h p w =
         let e : mates_reply costs n m rowCost columnCost (length before) ≡ given (pairs_of n p.takers) = enough h ∙ p.is in
         let a : after ≡ lay (mates_of (pairs_from p.takers 0 n) n) before = w.is p.takers p.held in
         record {

@@ -1,8 +1,8 @@
 -- The mates that are written tell the pairs that they were made of.
+use Rattle.std.specs.Prelude.{None, Option, Some}
 use mathlib.Core.Path.{◌≡◌, refl, sym, ap, ◌∙◌}
 use mathlib.Core.List.{List, [], ◌∷◌, ◌++◌}
 use mathlib.Core.Bool.{Bool, true, false, cond}
-use mathlib.Core.Option.{Option, none, some}
 use Prim.Native.Nat.{ℕ, zero, suc, ◌+◌, ◌≤◌, ◌<◌}
 use native.Mathlib.Decide.{ℕ_discrete}
 use native.Mathlib.Omega.{arith}
@@ -38,24 +38,24 @@ module _ (t : List (Option ℕ)) where
     where
       go : (o : Option ℕ) → pairs_from t (suc i) (suc n) ≡ pairs_from t (suc i) n ++ pair_at (i + suc n) (column_of (i + suc n) 0 t) [] →
           pair_at i o (pairs_from t (suc i) (suc n)) ≡ pair_at i o (pairs_from t (suc i) n) ++ pair_at (i + suc n) (column_of (i + suc n) 0 t) []
-      go none q = q
-      go (some c) q = ap (λ (r : List Pair). pair_of i c ∷ r) q
+      go None q = q
+      go (Some c) q = ap (λ (r : List Pair). pair_of i c ∷ r) q
 
   -- ---- a row's mate is the column that it takes
   abbrev or_alone : Option ℕ → ℕ
-  or_alone none = alone
-  or_alone (some c) = c
+  or_alone None = alone
+  or_alone (Some c) = c
 
   -- row j's turn: it is row i, or row i is a later one
   mate_here : (i j f : ℕ) → j ≡ i → (o : Option ℕ) → o ≡ column_of i 0 t → mate_of (pair_at j o (pairs_from t (suc j) f)) i ≡ or_alone (column_of i 0 t)
   unfolding mate_of pair_at
-  mate_here i j f e none q = late t i (suc j) f (omega arith) ∙ ap or_alone q
-  mate_here i j f e (some c) q = rw (eq-eqb j i e) (ap or_alone q)
+  mate_here i j f e None q = late t i (suc j) f (omega arith) ∙ ap or_alone q
+  mate_here i j f e (Some c) q = rw (eq-eqb j i e) (ap or_alone q)
 
   mate_later : (i j f : ℕ) → (j ≡ i → ⊥) → (o : Option ℕ) → mate_of (pairs_from t (suc j) f) i ≡ or_alone (column_of i 0 t) → mate_of (pair_at j o (pairs_from t (suc j) f)) i ≡ or_alone (column_of i 0 t)
   unfolding mate_of pair_at
-  mate_later i j f d none q = q
-  mate_later i j f d (some c) q = rw (ne_eqb j i d) q
+  mate_later i j f d None q = q
+  mate_later i j f d (Some c) q = rw (ne_eqb j i d) q
 
   mate_is : (i j f : ℕ) → j ≤ i → i < j + f → mate_of (pairs_from t j f) i ≡ or_alone (column_of i 0 t)
   unfolding pairs_from
@@ -66,12 +66,12 @@ module _ (t : List (Option ℕ)) where
       go (yes e) r = mate_here i j f e (column_of j 0 t) (ap (λ (k : ℕ). column_of k 0 t) e)
       go (no d) r = mate_later i j f d (column_of j 0 t) (r (omega arith))
 
-column_below : (t : List (Option ℕ)) (i k c : ℕ) → column_of i k t ≡ some c → c < k + length t
+column_below : (t : List (Option ℕ)) (i k c : ℕ) → column_of i k t ≡ Some c → c < k + length t
 unfolding column_of
 column_below [] i k c e = absurd (let z : ◌≡◌ {A = ℕ} 0 1 = cc in omega arith)
 column_below (o ∷ t) i k c e = go (is_label i o) (column_below t i (suc k) c) e
   where
-    go : (x : Bool) → (column_of i (suc k) t ≡ some c → c < suc k + length t) → cond x (some k) (column_of i (suc k) t) ≡ some c → c < k + suc (length t)
+    go : (x : Bool) → (column_of i (suc k) t ≡ Some c → c < suc k + length t) → cond x (Some k) (column_of i (suc k) t) ≡ Some c → c < k + suc (length t)
     go true r q = let z : k ≡ c = cc in omega arith
     go false r q = let h = r q in omega arith
 
@@ -81,8 +81,8 @@ module _ (t : List (Option ℕ)) (few : length t ≤ 64) where
   told_one i = go (column_of i 0 t) refl
     where
       go : (o : Option ℕ) → column_of i 0 t ≡ o → pairs_told i (or_alone t o ∷ []) ≡ pair_at i o []
-      go none e = refl
-      go (some c) e = let h = column_below t i 0 c e in rw (ne_eqb c alone (λ q. omega arith))
+      go None e = refl
+      go (Some c) e = let h = column_below t i 0 c e in rw (ne_eqb c alone (λ q. omega arith))
 
   pub told_mates : (n k : ℕ) → k ≤ n → pairs_told 0 (mates_of (pairs_from t 0 n) k) ≡ pairs_from t 0 k
   unfolding mates_of pairs_from pairs_told

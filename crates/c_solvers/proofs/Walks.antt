@@ -1,8 +1,8 @@
 -- The walk over the rows beside their pairs: each row's mate, one row more a turn. Assumes nothing.
+use Rattle.std.specs.Prelude.{None, Option, Some}
 use mathlib.Core.Path.{◌≡◌, refl, sym, ap, ◌∙◌}
 use mathlib.Core.Bool.{Bool, true, false}
 use mathlib.Core.List.{List, [], ◌∷◌, ◌++◌, map}
-use mathlib.Core.Option.{Option, none, some}
 use Prim.Native.Nat.{ℕ, zero, suc, ◌+◌, ◌-◌, ◌≤◌, ◌<◌}
 use native.Mathlib.Decide.{dec_lt}
 use native.Mathlib.Numerals.{add-one}
@@ -36,8 +36,8 @@ module _ (t : List (Option ℕ)) where
   late i j (suc f) h = go (column_of j 0 t) (late i (suc j) f (omega arith))
     where
       go : (o : Option ℕ) → mate_of (pairs_from t (suc j) f) i ≡ alone → mate_of (pair_at j o (pairs_from t (suc j) f)) i ≡ alone
-      go none e = e
-      go (some c) e = rw (ne_eqb j i (λ q. omega arith)) e
+      go None e = e
+      go (Some c) e = rw (ne_eqb j i (λ q. omega arith)) e
 
   -- the first of them is row i's or a later one's
   first : (i f : ℕ) (p : Pair) (l : List Pair) → pairs_from t i f ≡ p ∷ l → i ≤ p.row
@@ -46,8 +46,8 @@ module _ (t : List (Option ℕ)) where
   first i (suc f) p l e = go (column_of i 0 t) (first (suc i) f p l) e
     where
       go : (o : Option ℕ) → (pairs_from t (suc i) f ≡ p ∷ l → suc i ≤ p.row) → pair_at i o (pairs_from t (suc i) f) ≡ p ∷ l → i ≤ p.row
-      go none r q = let h = r q in omega arith
-      go (some c) r q = let h : p ≡ pair_of i c = cc in let k : p.row ≡ i = ap row_of h in omega arith
+      go None r q = let h = r q in omega arith
+      go (Some c) r q = let h : p ≡ pair_of i c = cc in let k : p.row ≡ i = ap row_of h in omega arith
 
   -- no more than the rows
   pub few_pairs : (i f : ℕ) → length (pairs_from t i f) ≤ f
@@ -56,8 +56,8 @@ module _ (t : List (Option ℕ)) where
   few_pairs i (suc f) = go (column_of i 0 t) (few_pairs (suc i) f)
     where
       go : (o : Option ℕ) → length (pairs_from t (suc i) f) ≤ f → length (pair_at i o (pairs_from t (suc i) f)) ≤ suc f
-      go none h = omega arith
-      go (some c) h = omega arith
+      go None h = omega arith
+      go (Some c) h = omega arith
 
   -- row i's turn, where it has a pair
   record Hit (i f : ℕ) (x : Pair) (l : List Pair) : Type 0 where
@@ -70,8 +70,8 @@ module _ (t : List (Option ℕ)) where
   hit i f x l e r = go (column_of i 0 t) refl e
     where
       go : (o : Option ℕ) → column_of i 0 t ≡ o → pair_at i o (pairs_from t (suc i) f) ≡ x ∷ l → Hit i f x l
-      go none c q = absurd (omega (arith, first (suc i) f x l q))
-      go (some c) s q =
+      go None c q = absurd (omega (arith, first (suc i) f x l q))
+      go (Some c) s q =
           let h : x ≡ pair_of i c = cc in
           record {
             rest = cc;
@@ -89,8 +89,8 @@ module _ (t : List (Option ℕ)) where
   miss i f n = go (column_of i 0 t) refl
     where
       go : (o : Option ℕ) → column_of i 0 t ≡ o → Miss i f
-      go none s = record { rest = rw s; mate = rw s (late i (suc i) f (omega arith)) }
-      go (some c) s = absurd (n c (rw s))
+      go None s = record { rest = rw s; mate = rw s (late i (suc i) f (omega arith)) }
+      go (Some c) s = absurd (n c (rw s))
 
 -- ---- the walk
 pub hit_below : (a : List ℕ) (c k i : ℕ) (b : Bool) → b ≡ hits a c k i → b ≡ true → k < c

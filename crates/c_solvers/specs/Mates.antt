@@ -1,6 +1,5 @@
 -- The assignment as a C caller sees it: for each row the column that it is paired with.
-use Rattle.std.specs.Prelude.{◌≡◌, Bool, cond, ◌&&◌, List, [], ◌∷◌, ◌++◌, map, ℕ, zero, suc, ◌≤◌, length, get_or, take, eqb, ltb, leb, Float}
-use Rattle.std.proofs.Math.Option.{Option}
+use Rattle.std.specs.Prelude.{◌≡◌, Bool, cond, ◌&&◌, List, [], ◌∷◌, ◌++◌, map, ℕ, zero, suc, ◌≤◌, length, get_or, take, eqb, ltb, leb, Float, Option}
 use Rattle.number.specs.Reply.{Reply, refused, given, code_of, refuse_unless}
 use Rattle.lists.specs.Lay.{lay}
 use Rattle.kuhn_munkres.specs.Assignment.{Pair, Pairs, pairs_from, assignment_reply}

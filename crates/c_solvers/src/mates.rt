@@ -2,6 +2,8 @@
 ghost use Rattle.std.specs.Prelude.{◌≡◌, ◌≤◌, length};
 ghost use Rattle.c_solvers.specs.Mates.{hits, MatesWritten, AssignmentCall};
 
+use assignment::AssignmentError;
+
 // What stands for the column of a row that is left alone.
 const ALONE: u64 = 0xffff_ffff_ffff_ffff;
 
@@ -49,11 +51,8 @@ pub fn linear_assignment(
     if mates.len() < rows {
         return 11;
     }
-    let answer = assignment::linear_assignment(costs, rows, columns, row_cost, column_cost);
-    let outcome = answer.outcome;
-    let found = answer.assignment;
-    match outcome {
-        assignment::Outcome::Given => {
+    match assignment::linear_assignment(costs, rows, columns, row_cost, column_cost) {
+        Ok(found) => {
             write_mates(
                 &found.pair_rows,
                 &found.pair_columns,
@@ -63,8 +62,8 @@ pub fn linear_assignment(
             );
             0
         }
-        assignment::Outcome::TooMany => 11,
-        assignment::Outcome::NonFinite => 9,
-        assignment::Outcome::Failed => 10,
+        Err(AssignmentError::TooMany) => 11,
+        Err(AssignmentError::NonFinite) => 9,
+        Err(AssignmentError::Failed) => 10,
     }
 }

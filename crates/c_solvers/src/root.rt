@@ -6,10 +6,10 @@ pub fn square_root(x: f64, out: &mut f64) -> u32
     ensures { RootCall x result out.old out.new }
 {
     match square_root::root(x) {
-        square_root::SquareRoot::Value(v) => {
+        Some(v) => {
             *out = v;
             0
         }
-        square_root::SquareRoot::Refused => 9,
+        None => 9,
     }
 }

@@ -1,4 +1,5 @@
 -- What a call of the tracker answers and leaves, laid over the record that a C program holds. Assumes nothing.
+use Rattle.std.specs.Prelude.{Err, Ok, Result}
 use mathlib.Core.Path.{◌≡◌, refl, sym, ap, subst, ◌∙◌}
 use Prim.Native.Nat.{ℕ, ◌<◌}
 use native.Mathlib.Omega.{arith}
@@ -6,8 +7,6 @@ use Rattle.number.specs.Reply.{Reply, refused, given, code_of}
 use Rattle.number.proofs.Replies.{never_given}
 use Rattle.types.specs.declared.batch.ObservationBatch3D.{ObservationBatch3D}
 use Rattle.types.specs.declared.refusal.Refusal.{Refusal}
-use Rattle.types.specs.declared.refusal.Outcome.{Outcome}
-use Rattle.types.specs.declared.refusal.Outcome.TheVariants as outcome
 use Rattle.types.specs.declared.tracker.Cartesian3DTracker.{Cartesian3DTracker}
 use Rattle.types.specs.Refusals.{number_of, reply_of}
 use Rattle.types.specs.States.{State}
@@ -54,7 +53,7 @@ module _ (t : PkTracker) (b : PkBatch) (r : Ran) (y : ObservationBatch3D) (e : y
   reply_is : batch_reply_on t y ≡ batch_on t b
   reply_is = ap (batch_reply_on t) e
 
-  pub batch_carried : (report : PkReport) → r.outcome ≡ outcome.Done → report ≡ report_to 0 r.report → (record { tracker = r.tracker; report = report } ≡ batch_answer t b) × Heeded (batch_on t b)
+  pub batch_carried : (report : PkReport) → r.outcome ≡ Ok tt → report ≡ report_to 0 r.report → (record { tracker = r.tracker; report = report } ≡ batch_answer t b) × Heeded (batch_on t b)
   unfolding batch_answer pk_after
   batch_carried report d q = go (batch_on t b) refl
     where
@@ -66,7 +65,7 @@ module _ (t : PkTracker) (b : PkBatch) (r : Ran) (y : ObservationBatch3D) (e : y
       go (given x) w =
           ((λ i. record { tracker = h.whole x (reply_is ∙ w) i; report = (q ∙ ap (report_to 0) (h.reported ∙ ap report_after (reply_is ∙ w))) i }) ∙ ap (processed_by t) (sym w), λ n f. never_given n x (sym f ∙ w))
 
-  pub batch_refused : (why : Refusal) (report : PkReport) → r.outcome ≡ outcome.Refused why → report ≡ report_to (number_of why) r.report → (record { tracker = t; report = report } ≡ batch_answer t b) × Heeded (batch_on t b)
+  pub batch_refused : (why : Refusal) (report : PkReport) → r.outcome ≡ Err why → report ≡ report_to (number_of why) r.report → (record { tracker = t; report = report } ≡ batch_answer t b) × Heeded (batch_on t b)
   unfolding batch_answer pk_after
   batch_refused why report d q = go (batch_on t b) refl
     where
@@ -89,22 +88,22 @@ module _ (t : PkTracker) (b : PkBatch) (r : Ran) (y : ObservationBatch3D) (e : y
 
 module _ (t : PkTracker) (u : Cartesian3DTracker) where
   -- a refusal that an outcome names has its number
-  pub heeded : (o : Outcome) (reply : Reply State) → Answers (tracker_of t) u o reply → Heeded reply
-  heeded outcome.Done reply h n e = absurd (let f = h.is ∙ ap verdict_on e in let z : ◌≡◌ {A = ℕ} 0 1 = cc in omega arith)
-  heeded (outcome.Refused why) reply h n e = let f : refused (number_of why) ≡ refused n = h.is ∙ ap verdict_on e in let same : number_of why ≡ n = cc in subst (λ (k : ℕ). 0 < k) same (number_above why)
+  pub heeded : (o : Result (Unit {0}) Refusal) (reply : Reply State) → Answers (tracker_of t) u o reply → Heeded reply
+  heeded (Ok _) reply h n e = absurd (let f = h.is ∙ ap verdict_on e in let z : ◌≡◌ {A = ℕ} 0 1 = cc in omega arith)
+  heeded (Err why) reply h n e = let f : refused (number_of why) ≡ refused n = h.is ∙ ap verdict_on e in let same : number_of why ≡ n = cc in subst (λ (k : ℕ). 0 < k) same (number_above why)
 
   -- the number that is answered
-  code_is : (o : Outcome) (reply : Reply State) → Answers (tracker_of t) u o reply → code_of (reply_of o) ≡ code_of reply
+  code_is : (o : Result (Unit {0}) Refusal) (reply : Reply State) → Answers (tracker_of t) u o reply → code_of (reply_of o) ≡ code_of reply
   code_is o reply h = ap (code_of {A = Unit {0}}) h.is ∙ verdict_code reply
 
   -- the record that is left
-  settled_is : (o : Outcome) (reply : Reply State) → Answers (tracker_of t) u o reply → settled t o u ≡ pk_after t reply
+  settled_is : (o : Result (Unit {0}) Refusal) (reply : Reply State) → Answers (tracker_of t) u o reply → settled t o u ≡ pk_after t reply
   unfolding pk_after
-  settled_is outcome.Done (refused n) h = absurd (let e = h.is in let z : ◌≡◌ {A = ℕ} 0 1 = cc in omega arith)
-  settled_is outcome.Done (given s) h = laid_over_lem t s u h.whole
-  settled_is (outcome.Refused why) (refused n) h = refl
-  settled_is (outcome.Refused why) (given s) h = absurd (let e = h.is in let z : ◌≡◌ {A = ℕ} 0 1 = cc in omega arith)
+  settled_is (Ok _) (refused n) h = absurd (let e = h.is in let z : ◌≡◌ {A = ℕ} 0 1 = cc in omega arith)
+  settled_is (Ok _) (given s) h = laid_over_lem t s u h.whole
+  settled_is (Err why) (refused n) h = refl
+  settled_is (Err why) (given s) h = absurd (let e = h.is in let z : ◌≡◌ {A = ℕ} 0 1 = cc in omega arith)
 
   -- both
-  pub answer_is : (o : Outcome) (reply : Reply State) → Answers (tracker_of t) u o reply → record { tracker = settled t o u; code = code_of (reply_of o) } ≡ answer_of t reply
+  pub answer_is : (o : Result (Unit {0}) Refusal) (reply : Reply State) → Answers (tracker_of t) u o reply → record { tracker = settled t o u; code = code_of (reply_of o) } ≡ answer_of t reply
   answer_is o reply h = λ i. record { tracker = settled_is o reply h i; code = code_is o reply h i }

@@ -1,12 +1,11 @@
 -- What the calls answer to a C program, and what they leave in the record that it holds. Each is one of the replies of calls, on the tracker that the record means (`trackerOf`), laid over
 -- the record (`pkAfter`). 01, What each call declines: "A refusal answers its number and changes nothing lent or held."
-use Rattle.std.specs.Prelude.{ℕ, ◌<◌, ◌≡◌, ℤ, Float}
+use Rattle.types.specs.declared.refusal.Refusal.{Refusal}
+use Rattle.std.specs.Prelude.{ℕ, ◌<◌, ◌≡◌, ℤ, Float, Err, Ok, Result}
 use Rattle.number.specs.Reply.{Reply, code_of}
 use Rattle.number.specs.Reply as reply
 use Rattle.settings.specs.Fields.{SettingsReply, accepted, refused}
 use Rattle.settings.specs.Settings.{settings_reply}
-use Rattle.types.specs.declared.refusal.Outcome.{Outcome}
-use Rattle.types.specs.declared.refusal.Outcome.TheVariants as outcome
 use Rattle.types.specs.declared.tracker.Cartesian3DTracker.{Cartesian3DTracker}
 use Rattle.types.specs.States.{State}
 use Rattle.calls.specs.Predict.{predict_reply}
@@ -75,6 +74,6 @@ batch_answer t b = processed_by t (batch_on t b)
 -- ---- the code's step between
 
 -- what is held after a call that left u with this outcome
-abbrev pub settled : PkTracker → Outcome → Cartesian3DTracker → PkTracker
-settled t outcome.Done u = laid_over t u
-settled t (outcome.Refused why) u = t
+abbrev pub settled : PkTracker → Result (Unit {0}) Refusal → Cartesian3DTracker → PkTracker
+settled t (Ok _) u = laid_over t u
+settled t (Err why) u = t

@@ -12,8 +12,8 @@ ghost use Rattle.c_tracker.specs.Calls.{Heeded, check_answer, new_answer, predic
 use batch_records::{PkBatch, PkReport};
 use records::config::PkSettings;
 use records::tracker::PkTracker;
-use settings::{Cartesian3DTrackerConfig, Validation};
-use types::refusal::Outcome;
+use settings::Cartesian3DTrackerConfig;
+use types::refusal::Refusal;
 use types::tracker::Cartesian3DTracker;
 
 // The tracker after a call, and 0 or the number of the refusal.
@@ -31,22 +31,22 @@ pub struct Processed {
 }
 
 // 0, or the number of the refusal.
-fn code_of(outcome: Outcome) -> u32
+fn code_of(outcome: Result<(), Refusal>) -> u32
     ensures { result ≡ code_of (reply_of outcome) }
 {
     match outcome {
-        Outcome::Done => 0,
-        Outcome::Refused(why) => owner::number_of(why),
+        Ok(()) => 0,
+        Err(why) => owner::number_of(why),
     }
 }
 
 // What the C program holds after a call that left u: where it was refused, what it held before.
-fn settle(t: PkTracker, outcome: Outcome, u: Cartesian3DTracker) -> PkTracker
+fn settle(t: PkTracker, outcome: Result<(), Refusal>, u: Cartesian3DTracker) -> PkTracker
     ensures { result ≡ settled t outcome u }
 {
     match outcome {
-        Outcome::Done => records::tracker::lay_over(t, u),
-        Outcome::Refused(_) => t,
+        Ok(()) => records::tracker::lay_over(t, u),
+        Err(_) => t,
     }
 }
 
@@ -57,7 +57,7 @@ pub fn settings_default() -> PkSettings
     records::config::settings_to(Cartesian3DTrackerConfig::default())
 }
 
-fn validate(s: PkSettings) -> Validation
+fn validate(s: PkSettings) -> Result<(), u32>
     ensures { settings.reply_of result ≡ settings_reply (settings_of s) }
 {
     records::config::settings_of(s).validate()
@@ -68,8 +68,8 @@ pub fn settings_check(s: PkSettings) -> u32
     ensures { result ≡ check_answer s }
 {
     match validate(s) {
-        Validation::Accepted => 0,
-        Validation::BadField(field) => field,
+        Ok(()) => 0,
+        Err(field) => field,
     }
 }
 
@@ -78,11 +78,11 @@ pub fn new(t: PkTracker, s: PkSettings) -> Answer
     ensures { result ≡ new_answer t s }
 {
     match validate(s) {
-        Validation::Accepted => Answer {
+        Ok(()) => Answer {
             tracker: records::tracker::fresh(s),
             code: 0,
         },
-        Validation::BadField(_) => Answer {
+        Err(_) => Answer {
             tracker: t,
             code: 1,
         },
@@ -130,11 +130,11 @@ pub fn process_batch(t: PkTracker, b: PkBatch) -> Processed
     let after = ran.tracker;
     let report = ran.report;
     match outcome {
-        Outcome::Done => Processed {
+        Ok(()) => Processed {
             tracker: after,
             report: batch_records::report_to(0, report),
         },
-        Outcome::Refused(why) => Processed {
+        Err(why) => Processed {
             tracker: t,
             report: batch_records::report_to(owner::number_of(why), report),
         },

@@ -1,18 +1,15 @@
 -- What a batch that is accepted has passed, and what the tables then do. Assumes nothing.
+use Rattle.std.specs.Prelude.{Option}
 use mathlib.Core.Path.{◌≡◌}
 use mathlib.Core.List.{List, [], ◌∷◌}
 use mathlib.Core.Bool.{true, not}
-use mathlib.Core.Option.{Option}
-use Prim.Native.Nat.{ℕ, suc, zero, ◌<◌}
-use native.Mathlib.Omega.{arith}
+use Prim.Native.Nat.{ℕ, ◌<◌}
 use lib.Dec.{leb}
 use lib.IntN.{ℤ}
-use lib.ListN.{length, get_or, take}
+use lib.ListN.{take}
 use Rattle.number.specs.Reply.{given}
 use Rattle.settings.specs.Frame.{same_frame}
 use Rattle.settings.specs.declared.frame.FrameName.{FrameName}
-use Rattle.detections.specs.declared.Detection.{Detection}
-use Rattle.detections.specs.Detection.{detection_reply}
 use Rattle.types.specs.declared.tracker.SensorSequence.{SensorSequence}
 use Rattle.types.specs.declared.batch.ObservationBatch3D.{ObservationBatch3D}
 use Rattle.tables.specs.Sequences.{last_of, noted, room_for, noted_in}

@@ -1,9 +1,9 @@
 -- Lists of tracks whose numbers ascend: the track of a number is the only one, and lies below the next number. Assumes nothing.
+use Rattle.std.specs.Prelude.{None, Option, Some}
 use mathlib.Core.Path.{◌≡◌, refl, sym, ap, ◌∙◌, subst}
 use mathlib.Core.List.Memᴰ
 use mathlib.Core.List.{List, [], ◌∷◌, ◌++◌, map, Memᴰ}
 use mathlib.Core.Logic.{◌⊎◌, inl, inr}
-use mathlib.Core.Option.{Option, none, some}
 use mathlib.Core.Bool.{Bool, true, false, cond}
 use Prim.Native.Nat.{ℕ, suc, ◌<◌}
 use native.Mathlib.Omega.{arith}
@@ -35,36 +35,36 @@ pub track_before : (n : ℕ) (ts : List Track3D) (t : Track3D) → n < t.id → 
 unfolding first_of
 track_before n [] t h = go (eqb n t.id) refl
   where
-    go : (b : Bool) → eqb n t.id ≡ b → cond b (some t) none ≡ none
+    go : (b : Bool) → eqb n t.id ≡ b → cond b (Some t) None ≡ None
     go true e = absurd (omega (arith, eqb→eq n t.id (rw e tt)))
     go false e = refl
 track_before n (u ∷ ts) t h = rw (track_before n ts t h)
 
 -- and of its own number there is one
-pub track_last : (n : ℕ) (ts : List Track3D) (t : Track3D) → t.id ≡ n → (u : Track3D) × (track_of n (ts ++ (t ∷ [])) ≡ some u)
+pub track_last : (n : ℕ) (ts : List Track3D) (t : Track3D) → t.id ≡ n → (u : Track3D) × (track_of n (ts ++ (t ∷ [])) ≡ Some u)
 unfolding first_of
 track_last n [] t h = (t, go (eqb n t.id) refl)
   where
-    go : (b : Bool) → eqb n t.id ≡ b → cond b (some t) none ≡ some t
+    go : (b : Bool) → eqb n t.id ≡ b → cond b (Some t) None ≡ Some t
     go true e = refl
     go false e = absurd (subst T e (rw h (eqb_refl n)))
 track_last n (u ∷ ts) t h = go (eqb n u.id) (track_last n ts t h)
   where
-    go : (b : Bool) → (v : Track3D) × (track_of n (ts ++ (t ∷ [])) ≡ some v) → (v : Track3D) × (cond b (some u) (track_of n (ts ++ (t ∷ []))) ≡ some v)
+    go : (b : Bool) → (v : Track3D) × (track_of n (ts ++ (t ∷ [])) ≡ Some v) → (v : Track3D) × (cond b (Some u) (track_of n (ts ++ (t ∷ []))) ≡ Some v)
     go true r = (u, refl)
     go false r = r
 
 -- ---- some dropped
 
-module _ (f : Track3D → Option Track3D) (same : (t u : Track3D) → f t ≡ some u → u.id ≡ t.id) where
+module _ (f : Track3D → Option Track3D) (same : (t u : Track3D) → f t ≡ Some u → u.id ≡ t.id) where
   every_sift : (n : ℕ) (ts : List Track3D) → Every (λ m. n < m) (numbers_of ts) → Every (λ m. n < m) (numbers_of (sift f ts))
   unfolding Every sift
   every_sift n [] h = tt
   every_sift n (t ∷ ts) h = go (f t) refl (every_sift n ts h.1)
     where
       go : (o : Option Track3D) → f t ≡ o → Every (λ m. n < m) (numbers_of (sift f ts)) → Every (λ m. n < m) (numbers_of (kept o (sift f ts)))
-      go none e r = r
-      go (some u) e r = (rw (same t u e) h.0, r)
+      go None e r = r
+      go (Some u) e r = (rw (same t u e) h.0, r)
 
   pub ascend_sift : (ts : List Track3D) (hi : ℕ) → Ascend (numbers_of ts) hi → Ascend (numbers_of (sift f ts)) hi
   unfolding Ascend sift
@@ -72,8 +72,8 @@ module _ (f : Track3D → Option Track3D) (same : (t u : Track3D) → f t ≡ so
   ascend_sift (t ∷ ts) hi h = go (f t) refl (ascend_sift ts hi h.2)
     where
       go : (o : Option Track3D) → f t ≡ o → Ascend (numbers_of (sift f ts)) hi → Ascend (numbers_of (kept o (sift f ts))) hi
-      go none e r = r
-      go (some u) e r = rw (same t u e) (every_sift t.id ts h.0, h.1, r)
+      go None e r = r
+      go (Some u) e r = rw (same t u e) (every_sift t.id ts h.0, h.1, r)
 
 -- ---- all changed, or one
 
@@ -105,12 +105,12 @@ change_numbers p f same (t ∷ ts) = go (p t) (change_numbers p f same ts)
 -- ---- the track of a number
 
 -- it lies below the next number
-pub below : (n : ℕ) (ts : List Track3D) (hi : ℕ) (t : Track3D) → Ascend (numbers_of ts) hi → track_of n ts ≡ some t → n < hi
+pub below : (n : ℕ) (ts : List Track3D) (hi : ℕ) (t : Track3D) → Ascend (numbers_of ts) hi → track_of n ts ≡ Some t → n < hi
 unfolding Ascend first_of
 below n [] hi t h e = absurd (let z : ◌≡◌ {A = ℕ} 0 1 = cc in omega arith)
 below n (u ∷ ts) hi t h e = go (eqb n u.id) refl (below n ts hi t h.2) e
   where
-    go : (b : Bool) → eqb n u.id ≡ b → (track_of n ts ≡ some t → n < hi) → cond b (some u) (track_of n ts) ≡ some t → n < hi
+    go : (b : Bool) → eqb n u.id ≡ b → (track_of n ts ≡ Some t → n < hi) → cond b (Some u) (track_of n ts) ≡ Some t → n < hi
     go true q r e = omega (arith, eqb→eq n u.id (rw q tt), h.1)
     go false q r e = r e
 
@@ -124,13 +124,13 @@ above n (u ∷ ts) t h m = go (Memᴰ.cases_cons m) (above n ts t h.1)
     go (inr m) r = r m
 
 -- it is the only one
-pub the_track_lem : (ts : List Track3D) (hi : ℕ) (t : Track3D) → Ascend (numbers_of ts) hi → Memᴰ t ts → track_of t.id ts ≡ some t
+pub the_track_lem : (ts : List Track3D) (hi : ℕ) (t : Track3D) → Ascend (numbers_of ts) hi → Memᴰ t ts → track_of t.id ts ≡ Some t
 unfolding Ascend first_of
 the_track_lem [] hi t h m = absurd (Memᴰ.not-nil m)
 the_track_lem (u ∷ ts) hi t h m = go (Memᴰ.cases_cons m) (eqb t.id u.id) refl (the_track_lem ts hi t h.2)
   where
-    go : (t ≡ u) ⊎ Memᴰ t ts → (b : Bool) → eqb t.id u.id ≡ b → (Memᴰ t ts → track_of t.id ts ≡ some t) → cond b (some u) (track_of t.id ts) ≡ some t
-    go (inl e) true q r = ap {B = Option Track3D} some (sym e)
+    go : (t ≡ u) ⊎ Memᴰ t ts → (b : Bool) → eqb t.id u.id ≡ b → (Memᴰ t ts → track_of t.id ts ≡ Some t) → cond b (Some u) (track_of t.id ts) ≡ Some t
+    go (inl e) true q r = ap {B = Option Track3D} Some (sym e)
     go (inl e) false q r = absurd (subst T (ap (λ (v : Track3D). eqb t.id v.id) e ∙ q) (eqb_refl t.id))
     go (inr m) true q r = absurd (omega (arith, eqb→eq t.id u.id (rw q tt), above u.id ts t h.0 m))
     go (inr m) false q r = r m

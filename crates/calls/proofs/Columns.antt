@@ -1,7 +1,7 @@
 -- What a row took and which tracks took nothing, by the lists of `linear_assignment`; the entries of the cost table. Assumes nothing.
+use Rattle.std.specs.Prelude.{None, Option, Some}
 use mathlib.Core.Path.{◌≡◌, refl, ap, ◌∙◌}
 use mathlib.Core.List.{List, [], ◌∷◌, ◌++◌, map, append_assoc}
-use mathlib.Core.Option.{Option, none, some}
 use Prim.Native.Nat.{ℕ, suc, ◌+◌, ◌<◌}
 use native.Mathlib.Omega.{arith}
 use lib.Ieee.{Float}
@@ -37,10 +37,10 @@ module _ (t : List (Option ℕ)) (ds : List Detection) (a : Detection) (w : leng
     where
       go : (o : Option ℕ) → column_of i 0 t ≡ o → unmatched_from (taken_by t ds) (suc i) ts ≡ map (λ r. get_or (numbers_of (front ++ (x ∷ ts))) r 0) (free_rows t (suc i) (length ts))
           → unmatched_from (taken_by t ds) i (x ∷ ts) ≡ map (λ r. get_or (numbers_of (front ++ (x ∷ ts))) r 0) (free_at i o (free_rows t (suc i) (length ts)))
-      go none e r =
+      go None e r =
           let number : get_or (numbers_of (front ++ (x ∷ ts))) i 0 ≡ x.id = rw (← h) (numbers_at front ts x) in
           rw (taken_none t ds i e, unmatched_from, number) (ap {B = List ℕ} (λ l. x.id ∷ l) r)
-      go (some j) e r = rw (taken_some t ds i j a w e, unmatched_from) r
+      go (Some j) e r = rw (taken_some t ds i j a w e, unmatched_from) r
 
   pub unmatched_rows : (ts : List Track3D) → unmatched_from (taken_by t ds) 0 ts ≡ map (λ r. get_or (numbers_of ts) r 0) (free_rows t 0 (length ts))
   unmatched_rows ts = unmatched_from_lem 0 [] ts refl

@@ -1,8 +1,8 @@
 -- Rules of the calls that no other law here rests on, each pinned at its edge: what is recent, which tracks suppress a birth, that a pair updates its track, that a detection with room
 -- begins one, and that a report tells of its own batch. Assumes nothing.
+use Rattle.std.specs.Prelude.{None, Some}
 use mathlib.Core.Path.{◌≡◌, refl, sym, ap, ◌∙◌}
 use mathlib.Core.List.{List, [], ◌∷◌}
-use mathlib.Core.Option.{none, some}
 use mathlib.Core.Bool.{true, false, ◌&&◌}
 use Prim.Native.Nat.{ℕ, ◌^◌, ◌-◌}
 use lib.Dec.{ltb}
@@ -10,8 +10,7 @@ use lib.IntN.{ℤ, pos}
 use lib.ListN.{length}
 use Rattle.number.specs.Reply.{given}
 use Rattle.number.specs.Time.{duration_reply}
-use Rattle.lifecycle.specs.declared.TrackLifecycleState.TheVariants.{Tentative, Confirmed, Lost, Deleted}
-use Rattle.lifecycle.specs.declared.Observation.TheVariants.{Never, At}
+use Rattle.lifecycle.specs.declared.TrackLifecycleState.TheVariants.{Tentative, Confirmed, Lost}
 use Rattle.settings.specs.declared.Cartesian3DTrackerConfig.{Cartesian3DTrackerConfig}
 use Rattle.matrix.specs.Matrix.{Vector}
 use Rattle.detections.specs.declared.Detection.{Detection}
@@ -29,15 +28,15 @@ use Rattle.number.proofs.Replies.{given_same, bound, past_test}
 
 module _ (t : Track3D) where
   -- 01, Detection: "The cascade pairs tracks with age at most the window first"
-  pub recent_at_the_window : t.lifecycle.last_observation ≡ At (pos 100) → recent (pos 50) (pos 150) t ≡ given true
+  pub recent_at_the_window : t.lifecycle.last_observation ≡ Some (pos 100) → recent (pos 50) (pos 150) t ≡ given true
   unfolding recent duration_reply
   recent_at_the_window e = rw e
 
-  pub not_recent_above_it : t.lifecycle.last_observation ≡ At (pos 100) → recent (pos 50) (pos 151) t ≡ given false
+  pub not_recent_above_it : t.lifecycle.last_observation ≡ Some (pos 100) → recent (pos 50) (pos 151) t ≡ given false
   unfolding recent duration_reply
   not_recent_above_it e = rw e
 
-  pub never_seen_is_not_recent : (window now : ℤ) → t.lifecycle.last_observation ≡ Never → recent window now t ≡ given false
+  pub never_seen_is_not_recent : (window now : ℤ) → t.lifecycle.last_observation ≡ None → recent window now t ≡ given false
   unfolding recent
   never_seen_is_not_recent window now e = rw e
 
@@ -59,7 +58,7 @@ module _ (c : Cartesian3DTrackerConfig) (sensor : ℕ) (now : ℤ) where
   -- ---- a pair updates its track
 
   -- the filter is the one that the detection updates, and the observation is registered
-  pub pair_updates : (t u : Track3D) (d : Detection) → updated_by c sensor now t (some d) ≡ given u
+  pub pair_updates : (t u : Track3D) (d : Detection) → updated_by c sensor now t (Some d) ≡ given u
       → filter_updated (moving c d) d t.filter ≡ given u.filter
       × (u ≡ observation_applied c.lifecycle c.max_contributing_sensors sensor now d.class_label (with_filter u.filter t))
   unfolding updated_by updated_with observation_applied
@@ -79,7 +78,7 @@ module _ (c : Cartesian3DTrackerConfig) (sensor : ℕ) (now : ℤ) where
       ap (λ (b : Born). b.fate) (sym (given_same _ r p.2))
 
   pub free_begins : (places : List Vector) (d : Detection) (s : State) (r : Born) → low_score c d ≡ false → near_confirmed c places d ≡ false
-      → born_unless_taken c sensor now places none d s ≡ given r → r.fate ≡ spawned s.next
+      → born_unless_taken c sensor now places None d s ≡ given r → r.fate ≡ spawned s.next
   unfolding born_unless_taken born_unless_low born_or_sighted
   free_begins places d s r low near e = spawned_begins 1 d s r (rw (low, near) at e)
 

@@ -1,8 +1,8 @@
 -- The nearest candidate stands at the place that is told of it. Assumes nothing.
+use Rattle.std.specs.Prelude.{None, Option, Some}
 use mathlib.Core.Path.{◌≡◌}
 use mathlib.Core.List.{List, [], ◌∷◌}
 use mathlib.Core.Bool.{Bool, true, false, cond}
-use mathlib.Core.Option.{Option, none, some}
 use Prim.Native.Nat.{ℕ, suc, ◌+◌, ◌<◌}
 use native.Mathlib.Omega.{arith}
 use lib.IntN.{ℤ}
@@ -15,15 +15,15 @@ use Rattle.calls.specs.Births.{Nearest, within, better, considered, nearest_from
 
 module _ (radius : Float) (now : ℤ) (d : Detection) (all : List BirthCandidate) (a : BirthCandidate) where
   Stands : Option Nearest → Type 0
-  Stands none = Unit {0}
-  Stands (some n) = (n.place < length all) × (get_or all n.place a ≡ n.candidate)
+  Stands None = Unit {0}
+  Stands (Some n) = (n.place < length all) × (get_or all n.place a ≡ n.candidate)
 
-  better_stands : (n : Nearest) (o : Option Nearest) → Stands (some n) → Stands o → Stands (some (better n o))
+  better_stands : (n : Nearest) (o : Option Nearest) → Stands (Some n) → Stands o → Stands (Some (better n o))
   unfolding better
-  better_stands n none h g = h
-  better_stands n (some best) h g = go (lt n.distance best.distance)
+  better_stands n None h g = h
+  better_stands n (Some best) h g = go (lt n.distance best.distance)
     where
-      go : (b : Bool) → Stands (some (cond b n best))
+      go : (b : Bool) → Stands (Some (cond b n best))
       go true = h
       go false = g
 
@@ -31,7 +31,7 @@ module _ (radius : Float) (now : ℤ) (d : Detection) (all : List BirthCandidate
   unfolding considered Stands
   considered_stands i k o h e g = go (within radius now d k)
     where
-      go : (b : Bool) → Stands (cond b (some (better (record { place = i; candidate = k; distance = distance_of k.position d.position }) o)) o)
+      go : (b : Bool) → Stands (cond b (Some (better (record { place = i; candidate = k; distance = distance_of k.position d.position }) o)) o)
       go true = better_stands _ o (h, e) g
       go false = g
 
@@ -45,8 +45,8 @@ module _ (radius : Float) (now : ℤ) (d : Detection) (all : List BirthCandidate
       (λ j h. let z : suc i + j ≡ i + suc j = omega arith in rw z (f (suc j) (omega arith)))
       (considered_stands i k o (omega arith) first g)
 
-pub nearest_stands : (radius : Float) (now : ℤ) (d : Detection) (l : List BirthCandidate) (a : BirthCandidate) (n : Nearest) → nearest_from radius now d 0 none l ≡ some n
+pub nearest_stands : (radius : Float) (now : ℤ) (d : Detection) (l : List BirthCandidate) (a : BirthCandidate) (n : Nearest) → nearest_from radius now d 0 None l ≡ Some n
     → (n.place < length l) × (get_or l n.place a ≡ n.candidate)
 unfolding Stands
 nearest_stands radius now d l a n e =
-    rw e at (stands_from radius now d l a 0 none l (omega arith) (λ k h. let z : 0 + k ≡ k = omega arith in rw z) tt)
+    rw e at (stands_from radius now d l a 0 None l (omega arith) (λ k h. let z : 0 + k ≡ k = omega arith in rw z) tt)

@@ -1,7 +1,8 @@
 -- In every state that calls make, track numbers strictly ascend and stay below the next one. Assumes nothing.
+use Rattle.std.specs.Prelude.{None, Some, Option}
+use Rattle.lifecycle.specs.declared.TrackLifecycle.{TrackLifecycle}
 use mathlib.Core.Path.{◌≡◌, refl, sym, ap, ◌∙◌, subst}
 use mathlib.Core.List.{List, [], ◌∷◌, map}
-use mathlib.Core.Option.{Option, none, some}
 use mathlib.Core.Bool.{Bool, true, false, cond, not}
 use Prim.Native.Nat.{ℕ}
 use native.Mathlib.Omega.{arith}
@@ -15,12 +16,9 @@ use Rattle.lists.specs.First.{any}
 use Rattle.lists.specs.Sift.{sift}
 use Rattle.lifecycle.specs.Lifecycle.{advanced_of}
 use Rattle.lifecycle.specs.declared.LifecycleConfig.{LifecycleConfig}
-use Rattle.lifecycle.specs.declared.Continued.{Continued}
-use Rattle.lifecycle.specs.declared.Continued.TheVariants.{Kept, Dropped}
 use Rattle.settings.specs.declared.Cartesian3DTrackerConfig.{Cartesian3DTrackerConfig}
 use Rattle.filter.specs.Filter.{predicted}
 use Rattle.detections.specs.declared.Detection.{Detection}
-use Rattle.detections.specs.declared.pairs.ClassPrior.TheVariants.{Prior}
 use Rattle.types.specs.declared.track.Track3D.{Track3D}
 use Rattle.types.specs.declared.tracker.BirthCandidate.{BirthCandidate}
 use Rattle.types.specs.declared.batch.ObservationBatch3D.{ObservationBatch3D}
@@ -65,13 +63,13 @@ stages c s b x e =
 
 -- ---- each step keeps the track's number
 
-continued_number : (life : LifecycleConfig) (now : ℤ) (t u : Track3D) → continued life now t ≡ some u → u.id ≡ t.id
+continued_number : (life : LifecycleConfig) (now : ℤ) (t u : Track3D) → continued life now t ≡ Some u → u.id ≡ t.id
 unfolding continued
 continued_number life now t u e = go (advanced_of t.lifecycle now life) e
   where
-    go : (o : Continued) → continued_as t o ≡ some u → u.id ≡ t.id
-    go (Kept l) e = let same : some u ≡ continued_as t (Kept l) = sym e in cc
-    go Dropped e = absurd (let z : ◌≡◌ {A = ℕ} 0 1 = cc in omega arith)
+    go : (o : Option TrackLifecycle) → continued_as t o ≡ Some u → u.id ≡ t.id
+    go (Some l) e = let same : Some u ≡ continued_as t (Some l) = sym e in cc
+    go None e = absurd (let z : ◌≡◌ {A = ℕ} 0 1 = cc in omega arith)
 
 module _ (q : Float) (now : ℤ) where
   moved_by_number : (t u : Track3D) (dt : ℤ) → moved_by q now t dt ≡ given u → u.id ≡ t.id
@@ -97,8 +95,8 @@ predicted_ascend c now ts us hi h e =
 module _ (c : Cartesian3DTrackerConfig) (sensor : ℕ) (now : ℤ) where
   updated_by_number : (t u : Track3D) (o : Option Detection) → updated_by c sensor now t o ≡ given u → u.id ≡ t.id
   unfolding updated_by updated_with observation_applied
-  updated_by_number t u none e = ap (λ (v : Track3D). v.id) (sym (given_same t u e))
-  updated_by_number t u (some d) e =
+  updated_by_number t u None e = ap (λ (v : Track3D). v.id) (sym (given_same t u e))
+  updated_by_number t u (Some d) e =
       let p = bound (filter_updated (moving c d) d t.filter) _ u e in
       ap (λ (v : Track3D). v.id) (sym (given_same _ u p.2))
 
@@ -141,7 +139,7 @@ unfolding prior_reply
 prior_numbered s t n label confidence h e =
     let q = past_test (finite confidence) 12 _ t e in
     let p = past_test (any (numbered n) s.tracks) 12 _ t q.1 in
-    subst Numbered (given_same _ t p.1) (rw (change_numbers (numbered n) (with_prior (Prior label _)) (λ x. refl) s.tracks) h)
+    subst Numbered (given_same _ t p.1) (rw (change_numbers (numbered n) (with_prior (Some (record { label = label; confidence = _ }))) (λ x. refl) s.tracks) h)
 
 left_numbered : (s : State) (r : Reply State) → Numbered s → ((t : State) → r ≡ given t → Numbered t) → Numbered (left_in r s)
 left_numbered s (refused n) h f = h

@@ -1,9 +1,9 @@
 -- Births: what they leave alone, what they tell, and that with some detections last the births before them are as without those. Assumes nothing.
+use Rattle.std.specs.Prelude.{None, Option, Some}
 use mathlib.Core.Path.{◌≡◌, refl, sym, ap, ◌∙◌, subst}
 use mathlib.Core.List.Memᴰ
 use mathlib.Core.List.{List, [], ◌∷◌, map, Memᴰ}
 use mathlib.Core.Logic.{◌⊎◌, inl, inr}
-use mathlib.Core.Option.{Option, none, some}
 use mathlib.Core.Bool.{Bool, true, false, ◌&&◌}
 use Prim.Native.Nat.{ℕ, suc, ◌≤◌, ◌<◌, ◌^◌, ◌-◌}
 use native.Mathlib.Omega.{arith}
@@ -24,9 +24,9 @@ use Rattle.number.proofs.Replies.{given_same, bound, past_test}
 use Rattle.calls.proofs.Ascends.{ascend_last, track_before, track_last}
 
 abbrev pub match_in : Fate → Option Match
-match_in (updated m) = some m
-match_in (spawned n) = none
-match_in unmatched = none
+match_in (updated m) = Some m
+match_in (spawned n) = None
+match_in unmatched = None
 
 -- b comes after a: the numbers below a's next one have the tracks that they had
 pub record Later (a b : State) : Type 0 where
@@ -44,21 +44,21 @@ record Told (p : Option Match) (s : State) (r : Born) : Type 0 where
   later : Later s r.state
   told : match_in r.fate ≡ p
   ascends : Numbered s → Numbered r.state
-  found : (n : ℕ) → r.fate ≡ spawned n → (n < r.state.next) × ((t : Track3D) × (track_of n r.state.tracks ≡ some t))
+  found : (n : ℕ) → r.fate ≡ spawned n → (n < r.state.next) × ((t : Track3D) × (track_of n r.state.tracks ≡ Some t))
 
 module _ (c : Cartesian3DTrackerConfig) (sensor : ℕ) (now : ℤ) where
-  still : (s : State) (l : List BirthCandidate) → Told none s (record { state = with_candidates l s; fate = unmatched })
+  still : (s : State) (l : List BirthCandidate) → Told None s (record { state = with_candidates l s; fate = unmatched })
   still s l =
       record { later = record { rises = omega arith; stays = λ n h. refl }; told = refl; ascends = λ h. h; found = λ n e. absurd (let z : ◌≡◌ {A = ℕ} 0 1 = cc in omega arith) }
 
-  spawned_told : (sightings : ℕ) (d : Detection) (s : State) (r : Born) → spawned_by c sensor now sightings d s ≡ given r → Told none s r
+  spawned_told : (sightings : ℕ) (d : Detection) (s : State) (r : Born) → spawned_by c sensor now sightings d s ≡ given r → Told None s r
   unfolding spawned_by
   spawned_told sightings d s r e =
       let q = past_test (ltb (length s.tracks) 64 && ltb s.next (2 ^ 64 - 1)) 11 _ r e in
       let p = bound (born_filter c.initial_velocity_variance (moving c d) d) _ r q.1 in
       let t : Track3D = born_under c sensor now s sightings d p.0 in
       let number : t.id ≡ s.next = (unfold born_track in refl) in
-      subst (Told none s) (given_same _ r p.2)
+      subst (Told None s) (given_same _ r p.2)
       (record {
         later = record { rises = omega arith; stays = λ n h. track_before n s.tracks t (omega (arith, number)) };
         told = refl;
@@ -66,31 +66,31 @@ module _ (c : Cartesian3DTrackerConfig) (sensor : ℕ) (now : ℤ) where
         found = λ n z. let same : s.next ≡ n = cc in rw (← same) (omega arith, track_last s.next s.tracks t number);
       })
 
-  born_told : (o : Option ℕ) (d : Detection) (s : State) (l : List BirthCandidate) (r : Born) → born_if_enough c sensor now d (with_candidates l s) o ≡ given r → Told none s r
+  born_told : (o : Option ℕ) (d : Detection) (s : State) (l : List BirthCandidate) (r : Born) → born_if_enough c sensor now d (with_candidates l s) o ≡ given r → Told None s r
   unfolding born_if_enough
-  born_told none d s l r e = subst (Told none s) (given_same _ r e) (still s l)
-  born_told (some n) d s l r e =
+  born_told None d s l r e = subst (Told None s) (given_same _ r e) (still s l)
+  born_told (Some n) d s l r e =
       let q = spawned_told n d (with_candidates l s) r e in
       record { later = record { rises = q.later.rises; stays = q.later.stays }; told = q.told; ascends = q.ascends; found = q.found }
 
-  near_told : (b : Bool) (d : Detection) (s : State) (r : Born) → born_or_sighted c sensor now b d s ≡ given r → Told none s r
+  near_told : (b : Bool) (d : Detection) (s : State) (r : Born) → born_or_sighted c sensor now b d s ≡ given r → Told None s r
   unfolding born_or_sighted
   near_told false d s r e = spawned_told 1 d s r e
   near_told true d s r e =
       let p = bound (sighted c now d s.candidates) _ r e in
       born_told p.0.enough d s p.0.candidates r p.2
 
-  low_told : (b near : Bool) (d : Detection) (s : State) (r : Born) → born_unless_low c sensor now b near d s ≡ given r → Told none s r
+  low_told : (b near : Bool) (d : Detection) (s : State) (r : Born) → born_unless_low c sensor now b near d s ≡ given r → Told None s r
   unfolding born_unless_low
-  low_told true near d s r e = subst (Told none s) (given_same _ r e) (still s s.candidates)
+  low_told true near d s r e = subst (Told None s) (given_same _ r e) (still s s.candidates)
   low_told false near d s r e = near_told near d s r e
 
   module _ (places : List Vector) where
     from_told : (p : Option Match) (d : Detection) (s : State) (r : Born) → born_unless_taken c sensor now places p d s ≡ given r → Told p s r
     unfolding born_unless_taken
-    from_told none d s r e = low_told _ _ d s r e
-    from_told (some m) d s r e =
-        subst (Told (some m) s) (given_same _ r e)
+    from_told None d s r e = low_told _ _ d s r e
+    from_told (Some m) d s r e =
+        subst (Told (Some m) s) (given_same _ r e)
         (record { later = later_refl s; told = refl; ascends = λ h. h; found = λ n q. absurd (let z : ◌≡◌ {A = ℕ} 0 1 = cc in omega arith) })
 
     -- ---- a column, then the others
@@ -147,7 +147,7 @@ module _ (c : Cartesian3DTrackerConfig) (sensor : ℕ) (now : ℤ) where
 
     -- the track of a birth is in the table
     abbrev Found : ℕ → State → Type 0
-    Found n s = (n < s.next) × ((t : Track3D) × (track_of n s.tracks ≡ some t))
+    Found n s = (n < s.next) × ((t : Track3D) × (track_of n s.tracks ≡ Some t))
 
     found_first : (k : Column) (l : List Column) (s : State) (w : Births) (p : Walk k l s w) (n : ℕ) → p.one.fate ≡ spawned n → Found n p.rest.state
     found_first k l s w p n q =
@@ -166,7 +166,7 @@ module _ (c : Cartesian3DTrackerConfig) (sensor : ℕ) (now : ℤ) where
         go (inl q) = found_first k l s w p n (sym q)
 
     pub births_found : (l : List Column) (s : State) (w : Births) → births_of c sensor now places l s ≡ given w → (n : ℕ) → Memᴰ (spawned n) w.fates
-        → (n < w.state.next) × ((t : Track3D) × (track_of n w.state.tracks ≡ some t))
+        → (n < w.state.next) × ((t : Track3D) × (track_of n w.state.tracks ≡ Some t))
     births_found [] s w e n m = absurd (Memᴰ.not-nil (subst (λ (v : Births). Memᴰ (spawned n) v.fates) (births_nil s w e) m))
     births_found (k ∷ l) s w e n m =
         let p = births_walk k l s w e in

@@ -1,8 +1,8 @@
 -- What a call of the code answers, in the terms of these definitions: the words that the contracts of the five calls are written in. Each settles the whole reply.
-use Rattle.std.specs.Prelude.{ℕ, ◌≡◌, List, [], ◌∷◌, ℤ, Float}
+use Rattle.types.specs.declared.refusal.Refusal.{Refusal}
+use Rattle.std.specs.Prelude.{ℕ, ◌≡◌, List, [], ◌∷◌, ℤ, Float, Result}
 use Rattle.number.specs.Reply.{Reply, given, and_then, left_in}
 use Rattle.settings.specs.declared.Cartesian3DTrackerConfig.{Cartesian3DTrackerConfig}
-use Rattle.types.specs.declared.refusal.Outcome.{Outcome}
 use Rattle.types.specs.declared.batch.ObservationBatch3D.{ObservationBatch3D}
 use Rattle.types.specs.declared.batch.BatchReport3D.{BatchReport3D}
 use Rattle.types.specs.declared.track.Snapshots.{Snapshots}
@@ -32,27 +32,27 @@ report_after reply = left_in (and_then reply (λ d. given (whole_report d.report
 
 -- A call on the tracker t that leaves u and answers o: the outcome is the definition's, with its number, and every field and place of u is settled. So settings stay, places
 -- behind the counts are as they were, and 01's "A refusal answers its number and changes nothing lent or held" holds.
-pub record Answers (t u : Cartesian3DTracker) (o : Outcome) (reply : Reply State) : Type 0 where
+pub record Answers (t u : Cartesian3DTracker) (o : Result (Unit {0}) Refusal) (reply : Reply State) : Type 0 where
   pub is : reply_of o ≡ verdict_on reply
   pub whole : u ≡ tracker_after t reply
 
 -- ---- the five calls
 
 -- `new`: 01, Settings: "1 with the first bad field". The tracker is the fresh one of these settings, even where they are refused and nobody may use it.
-pub record NewAnswers (c : Cartesian3DTrackerConfig) (o : Outcome) (u : Cartesian3DTracker) : Type 0 where
+pub record NewAnswers (c : Cartesian3DTrackerConfig) (o : Result (Unit {0}) Refusal) (u : Cartesian3DTracker) : Type 0 where
   pub is : settings_reply_of o ≡ settings_reply c
   pub whole : u ≡ fresh_of c
 
 -- `predict_to`
-abbrev pub PredictAnswers : Cartesian3DTracker → ℤ → Cartesian3DTracker → Outcome → Type 0
+abbrev pub PredictAnswers : Cartesian3DTracker → ℤ → Cartesian3DTracker → Result (Unit {0}) Refusal → Type 0
 PredictAnswers t now u o = Answers t u o (predict_reply t.config (state_of t) now)
 
 -- `set_class_prior`
-abbrev pub PriorAnswers : Cartesian3DTracker → ℕ → ℕ → Float → Cartesian3DTracker → Outcome → Type 0
+abbrev pub PriorAnswers : Cartesian3DTracker → ℕ → ℕ → Float → Cartesian3DTracker → Result (Unit {0}) Refusal → Type 0
 PriorAnswers t n label confidence u o = Answers t u o (prior_reply (state_of t) n label confidence)
 
 -- `process_batch_reported`: the report beside the tracker
-pub record BatchAnswers (t : Cartesian3DTracker) (b : ObservationBatch3D) (u : Cartesian3DTracker) (o : Outcome) (report : BatchReport3D) : Type 0 where
+pub record BatchAnswers (t : Cartesian3DTracker) (b : ObservationBatch3D) (u : Cartesian3DTracker) (o : Result (Unit {0}) Refusal) (report : BatchReport3D) : Type 0 where
   pub tracker : Answers t u o (state_given (process_reply t.config (state_of t) b))
   pub reported : report ≡ report_after (process_reply t.config (state_of t) b)
 
@@ -68,9 +68,9 @@ SnapshotsAnswer t r = r ≡ snapshots_of t
 
 -- what a call may leave: the contract of that call, whatever else it answers
 unfoldable pub Step : Cartesian3DTracker → Call → Cartesian3DTracker → Type 0
-Step t (predict_to now) u = (o : Outcome) × PredictAnswers t now u o
-Step t (process_batch b) u = (o : Outcome) × (report : BatchReport3D) × BatchAnswers t b u o report
-Step t (set_class_prior n label confidence) u = (o : Outcome) × PriorAnswers t n label confidence u o
+Step t (predict_to now) u = (o : Result (Unit {0}) Refusal) × PredictAnswers t now u o
+Step t (process_batch b) u = (o : Result (Unit {0}) Refusal) × (report : BatchReport3D) × BatchAnswers t b u o report
+Step t (set_class_prior n label confidence) u = (o : Result (Unit {0}) Refusal) × PriorAnswers t n label confidence u o
 
 -- each on the tracker that the one before left
 unfoldable pub Steps : Cartesian3DTracker → List Call → Cartesian3DTracker → Type 0

@@ -1,7 +1,6 @@
 -- Births: what becomes of the detections that no track took. 01, Batch: "8 a candidate age overflows; births in detection order, 11 for a 65th candidate, a 65th track
 -- or a next number of 2⁶⁴−1, then 5, 7." The Rust's process_batch_inner (tracker3d.rs 754 to 803), persistent_birth (825 to 856) and spawn_track (880 to 934).
-use Rattle.std.specs.Prelude.{ℕ, suc, ◌^◌, ◌-◌, Bool, true, false, cond, not, ◌&&◌, List, [], ◌∷◌, ◌++◌, leb, ltb, ℤ, Float, length, set}
-use Rattle.std.proofs.Math.Option.{Option, none, some}
+use Rattle.std.specs.Prelude.{ℕ, suc, ◌^◌, ◌-◌, Bool, true, false, cond, not, ◌&&◌, List, [], ◌∷◌, ◌++◌, leb, ltb, ℤ, Float, length, set, None, Option, Some}
 use Rattle.std.specs.Float.{binary64}
 use Rattle.std.specs.Float.Ieee.{lt, mul}
 use Rattle.std.specs.Int.Signed.{le_z}
@@ -14,18 +13,15 @@ use Rattle.lifecycle.specs.declared.TrackLifecycleState.{TrackLifecycleState}
 use Rattle.lifecycle.specs.declared.TrackLifecycleState.TheVariants.{Tentative, Confirmed, Lost, Deleted}
 use Rattle.lifecycle.specs.declared.TrackLifecycle.{TrackLifecycle}
 use Rattle.lifecycle.specs.declared.LifecycleConfig.{LifecycleConfig}
-use Rattle.settings.specs.Optional.{f64_of, u32_of, set_and}
+use Rattle.settings.specs.Optional.{set_and}
 use Rattle.settings.specs.declared.Cartesian3DTrackerConfig.{Cartesian3DTrackerConfig}
 use Rattle.matrix.specs.Matrix.{Vector, item, nought}
 use Rattle.lists.specs.Masks.{left_by}
 use Rattle.lists.specs.Each.{each}
 use Rattle.filter.specs.declared.KalmanFilter.{KalmanFilter}
 use Rattle.filter.specs.Filter.{created}
-use Rattle.detections.specs.declared.Class.{Class}
 use Rattle.detections.specs.declared.Detection.{Detection}
-use Rattle.detections.specs.declared.pairs.ClassPrior.TheVariants.{NoPrior}
 use Rattle.detections.specs.Births.{score_below, distance_of, nearer}
-use Rattle.types.specs.declared.track.UpdateSensor.TheVariants.{Sensor}
 use Rattle.types.specs.declared.track.Track3D.{Track3D}
 use Rattle.types.specs.declared.tracker.BirthCandidate.{BirthCandidate}
 use Rattle.types.specs.Track.{snapshot_of}
@@ -68,8 +64,8 @@ pub record Nearest : Type 0 where
 
 -- 01, Detection: "the nearest wins, the earlier on a tie"
 unfoldable pub better : Nearest → Option Nearest → Nearest
-better n none = n
-better n (some best) = cond (lt n.distance best.distance) n best
+better n None = n
+better n (Some best) = cond (lt n.distance best.distance) n best
 
 -- what a sighting leaves: the candidates, and how often this one was seen, once that is often enough
 pub record Sighting : Type 0 where
@@ -80,8 +76,8 @@ pub record Sighting : Type 0 where
 unfoldable pub continued_at : ℕ → List BirthCandidate → ℕ → BirthCandidate → Sighting
 continued_at required l i k =
     cond (leb required k.sightings)
-    (record { candidates = swap_remove i l; enough = some k.sightings })
-    (record { candidates = set l i k; enough = none })
+    (record { candidates = swap_remove i l; enough = Some k.sightings })
+    (record { candidates = set l i k; enough = None })
 
 module _ (radius : Float) (now : ℤ) (d : Detection) where
   -- 01, Detection: "a candidate must be strictly nearer than the radius and not seen at this batch's time"
@@ -89,7 +85,7 @@ module _ (radius : Float) (now : ℤ) (d : Detection) where
   within k = not (same_time k.last_seen now) && nearer k.position d.position radius
 
   unfoldable pub considered : ℕ → BirthCandidate → Option Nearest → Option Nearest
-  considered i k best = cond (within k) (some (better (record { place = i; candidate = k; distance = distance_of k.position d.position }) best)) best
+  considered i k best = cond (within k) (Some (better (record { place = i; candidate = k; distance = distance_of k.position d.position }) best)) best
 
   -- of the candidates from place i on, and the best before them
   unfoldable pub nearest_from : ℕ → Option Nearest → List BirthCandidate → Option Nearest
@@ -105,28 +101,28 @@ module _ (radius : Float) (now : ℤ) (d : Detection) where
 
   -- "11 for a 65th candidate"
   unfoldable pub sighted_by : ℕ → List BirthCandidate → Option Nearest → Reply Sighting
-  sighted_by required l none = refuse_unless (ltb (length l) 64) 11 (given (record { candidates = l ++ (first_sighting ∷ []); enough = none }))
-  sighted_by required l (some n) = given (continued_at required l n.place (seen_again n.candidate))
+  sighted_by required l None = refuse_unless (ltb (length l) 64) 11 (given (record { candidates = l ++ (first_sighting ∷ []); enough = None }))
+  sighted_by required l (Some n) = given (continued_at required l n.place (seen_again n.candidate))
 
   -- without persistence there are no candidates
   unfoldable pub sighted_for : Option ℕ → List BirthCandidate → Reply Sighting
-  sighted_for none l = given (record { candidates = l; enough = none })
-  sighted_for (some required) l = sighted_by required l (nearest_from 0 none l)
+  sighted_for None l = given (record { candidates = l; enough = None })
+  sighted_for (Some required) l = sighted_by required l (nearest_from 0 None l)
 
 unfoldable pub sighted : Cartesian3DTrackerConfig → ℤ → Detection → List BirthCandidate → Reply Sighting
-sighted c now d l = sighted_for c.birth_candidate_radius_m now d (u32_of c.birth_persistence) l
+sighted c now d l = sighted_for c.birth_candidate_radius_m now d (c.birth_persistence) l
 
 -- ---- a new track
 
 -- at the detection's place, and with its velocity where one counts
 abbrev pub born_state : Vector → Option Moving → Vector
-born_state p none = item p 0 ∷ item p 1 ∷ item p 2 ∷ nought ∷ nought ∷ nought ∷ []
-born_state p (some v) = item p 0 ∷ item p 1 ∷ item p 2 ∷ v.x ∷ v.y ∷ nought ∷ []
+born_state p None = item p 0 ∷ item p 1 ∷ item p 2 ∷ nought ∷ nought ∷ nought ∷ []
+born_state p (Some v) = item p 0 ∷ item p 1 ∷ item p 2 ∷ v.x ∷ v.y ∷ nought ∷ []
 
 -- the variance of its velocity along x and y
 abbrev pub born_variance : Float → Option Moving → Float
-born_variance initial none = initial
-born_variance initial (some v) = mul binary64 v.deviation v.deviation
+born_variance initial None = initial
+born_variance initial (Some v) = mul binary64 v.deviation v.deviation
 
 -- the detection's covariance r as it is, and the variances w along x and y and z along z
 abbrev pub born_covariance : Vector → Float → Float → Vector
@@ -157,16 +153,16 @@ abbrev pub with_candidates : List BirthCandidate → State → State
 with_candidates l s = state_with s.tracks s.sequences l s
 
 -- the Rust's spawn_track: what a detection of this class begins, with the number n
-unfoldable pub born_track : LifecycleConfig → ℕ → ℕ → ℤ → ℕ → ℕ → Class → KalmanFilter → Track3D
+unfoldable pub born_track : LifecycleConfig → ℕ → ℕ → ℤ → ℕ → ℕ → Option ℕ → KalmanFilter → Track3D
 born_track life limit sensor now n sightings class f =
     record {
       id = n;
       filter = f;
       lifecycle = born_life life now sightings;
       class_label = class;
-      class_prior = NoPrior;
+      class_prior = None;
       state_timestamp = now;
-      last_update_sensor = Sensor sensor;
+      last_update_sensor = Some sensor;
       contributing_sensors = contributed_by limit sensor blank_track.contributing_sensors;
       updated_this_batch = true;
     }
@@ -186,8 +182,8 @@ module _ (c : Cartesian3DTrackerConfig) (sensor : ℕ) (now : ℤ) where
 
   -- whether the sightings of its candidate are enough: so many, or not yet (tracker3d.rs 783 to 786: `Some(count) => sightings = count, None => continue`)
   unfoldable pub born_if_enough : Detection → State → Option ℕ → Reply Born
-  born_if_enough d s none = given (record { state = s; fate = unmatched })
-  born_if_enough d s (some sightings) = spawned_by sightings d s
+  born_if_enough d s None = given (record { state = s; fate = unmatched })
+  born_if_enough d s (Some sightings) = spawned_by sightings d s
 
   -- whether it is near a confirmed track: then it is a sighting of a candidate only (778 to 783: `any(|p| .. < min_distance)`, persistent_birth)
   unfoldable pub born_or_sighted : Bool → Detection → State → Reply Born
@@ -214,17 +210,17 @@ confirmed_places [] = []
 confirmed_places (t ∷ ts) = let rest = confirmed_places ts in cond (is_confirmed t.lifecycle.state) ((snapshot_of t).position ∷ rest) rest
 
 abbrev pub low_score : Cartesian3DTrackerConfig → Detection → Bool
-low_score c d = set_and (score_below d.score) (f64_of c.new_track_score_threshold)
+low_score c d = set_and (score_below d.score) (c.new_track_score_threshold)
 
 -- where a birth distance is set, a place nearer than that
 abbrev pub near_confirmed : Cartesian3DTrackerConfig → List Vector → Detection → Bool
-near_confirmed c places d = set_and (λ least. any (λ p. nearer p d.position least) places) (f64_of c.min_birth_distance_m)
+near_confirmed c places d = set_and (λ least. any (λ p. nearer p d.position least) places) (c.min_birth_distance_m)
 
 module _ (c : Cartesian3DTrackerConfig) (sensor : ℕ) (now : ℤ) (places : List Vector) where
   -- whether a track took it: then it is told as an update, and begins nothing (767: `for &j in &assignment.unmatched_columns`)
   unfoldable pub born_unless_taken : Option Match → Detection → State → Reply Born
-  born_unless_taken (some m) d s = given (record { state = s; fate = updated m })
-  born_unless_taken none d s = born_unless_low c sensor now (low_score c d) (near_confirmed c places d) d s
+  born_unless_taken (Some m) d s = given (record { state = s; fate = updated m })
+  born_unless_taken None d s = born_unless_low c sensor now (low_score c d) (near_confirmed c places d) d s
 
   -- "births in detection order"
   unfoldable pub births_of : List Column → State → Reply Births

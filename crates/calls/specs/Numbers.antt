@@ -1,6 +1,5 @@
 -- Track numbers. 01, What demand 3 speaks of: "the same track is the one of the same number".
-use Rattle.std.specs.Prelude.{ℕ, ◌<◌, List, [], ◌∷◌, map}
-use Rattle.std.proofs.Math.Option.{Option}
+use Rattle.std.specs.Prelude.{ℕ, ◌<◌, List, [], ◌∷◌, map, Option}
 use Rattle.lists.specs.First.{first_of}
 use Rattle.lists.specs.Masks.{Every}
 use Rattle.types.specs.declared.track.Track3D.{Track3D}

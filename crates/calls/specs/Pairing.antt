@@ -1,14 +1,10 @@
 -- The pairing of a batch's detections with the tracks at its time. 01, Batch: "distances of class-compatible pairs in track order, and in detection order within
 -- a track, 7, 9 not finite; 8 a window age overflows; 10 the assignment's smallest step isn't finite". The Rust's process_batch_inner and cascade_assignment.
-use Rattle.std.specs.Prelude.{ℕ, Bool, false, not, List, map, ℤ, Float, length}
-use Rattle.std.proofs.Math.Option.{Option, none, some}
+use Rattle.std.specs.Prelude.{ℕ, Bool, false, not, List, map, ℤ, Float, length, None, Option, Some}
 use Rattle.std.specs.Float.{inf}
 use Rattle.std.specs.Int.Signed.{le_z}
 use Rattle.number.specs.Reply.{Reply, given, and_then}
 use Rattle.number.specs.Time.{duration_reply}
-use Rattle.lifecycle.specs.declared.Observation.{Observation}
-use Rattle.lifecycle.specs.declared.Observation.TheVariants.{Never, At}
-use Rattle.settings.specs.Optional.{i64_of}
 use Rattle.settings.specs.declared.Cartesian3DTrackerConfig.{Cartesian3DTrackerConfig}
 use Rattle.matrix.specs.Matrix.{nought}
 use Rattle.lists.specs.Masks.{left_by, count, up_from}
@@ -67,17 +63,17 @@ module _ (gate : Float) where
       (λ second. given (both_takers (map (named (left_by recent names)) first) (map (named (left_by others names)) second))))
 
 -- 01, Batch: "8 a window age overflows". An age equal to the window is recent; a track that was never seen isn't (the Rust's `is_some_and`).
-abbrev pub recent_since : ℤ → ℤ → Observation → Reply Bool
-recent_since window now Never = given false
-recent_since window now (At last) = and_then (duration_reply now last) (λ age. given (le_z age window))
+abbrev pub recent_since : ℤ → ℤ → Option ℤ → Reply Bool
+recent_since window now None = given false
+recent_since window now (Some last) = and_then (duration_reply now last) (λ age. given (le_z age window))
 
 unfoldable pub recent : ℤ → ℤ → Track3D → Reply Bool
 recent window now t = recent_since window now t.lifecycle.last_observation
 
 -- one assignment, or the cascade where a window is set
 unfoldable pub paired_in : Float → Option ℤ → ℤ → List Track3D → List (List Float) → ℕ → Reply Takers
-paired_in gate none now ts rows n = assigned gate rows n
-paired_in gate (some window) now ts rows n = and_then (each (recent window now) ts) (λ flags. cascaded gate flags rows n)
+paired_in gate None now ts rows n = assigned gate rows n
+paired_in gate (Some window) now ts rows n = and_then (each (recent window now) ts) (λ flags. cascaded gate flags rows n)
 
 unfoldable pub paired : Cartesian3DTrackerConfig → ℤ → List Track3D → List (List Float) → ℕ → Reply Takers
-paired c now ts rows n = paired_in c.gate_squared_mahalanobis (i64_of c.recent_track_window_ns) now ts rows n
+paired c now ts rows n = paired_in c.gate_squared_mahalanobis (c.recent_track_window_ns) now ts rows n

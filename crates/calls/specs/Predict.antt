@@ -1,14 +1,12 @@
 -- Prediction. 01, Predict: "3; then, for each track that the lifecycle keeps and whose time isn't already the new one, in track order, 8 time difference
 -- overflows, 5 noise not finite, 9 result not finite." The Rust's predict_to_inner.
-use Rattle.std.specs.Prelude.{not, cond, List, ℤ, Float}
-use Rattle.std.proofs.Math.Option.{Option, none, some}
+use Rattle.lifecycle.specs.declared.TrackLifecycle.{TrackLifecycle}
+use Rattle.std.specs.Prelude.{not, cond, List, ℤ, Float, None, Option, Some}
 use Rattle.number.specs.Reply.{Reply, given, and_then, refuse_unless}
 use Rattle.number.specs.Time.{seconds_of, duration_reply, same_time}
 use Rattle.lists.specs.Sift.{sift}
 use Rattle.lifecycle.specs.Lifecycle.{advanced_of}
 use Rattle.lifecycle.specs.declared.LifecycleConfig.{LifecycleConfig}
-use Rattle.lifecycle.specs.declared.Continued.{Continued}
-use Rattle.lifecycle.specs.declared.Continued.TheVariants.{Kept, Dropped}
 use Rattle.settings.specs.declared.Cartesian3DTrackerConfig.{Cartesian3DTrackerConfig}
 use Rattle.filter.specs.Filter.{predicted}
 use Rattle.types.specs.declared.track.Track3D.{Track3D}
@@ -17,9 +15,9 @@ use Rattle.types.specs.States.{State}
 use Rattle.batches.specs.Check.{is_before}
 use Rattle.lists.specs.Each.{each}
 
-abbrev pub continued_as : Track3D → Continued → Option Track3D
-continued_as t (Kept l) = some (with_lifecycle l t)
-continued_as t Dropped = none
+abbrev pub continued_as : Track3D → Option TrackLifecycle → Option Track3D
+continued_as t (Some l) = Some (with_lifecycle l t)
+continued_as t None = None
 
 -- "each track that the lifecycle keeps", with its life as the step leaves it
 unfoldable pub continued : LifecycleConfig → ℤ → Track3D → Option Track3D
@@ -38,7 +36,7 @@ unfoldable pub predicted_tracks : Cartesian3DTrackerConfig → ℤ → List Trac
 predicted_tracks c now ts = each (moved c.accel_spectral_density now) (sift (continued c.lifecycle now) ts)
 
 abbrev pub at_time : ℤ → List Track3D → State → State
-at_time now ts s = record { tracks = ts; next = s.next; last = some now; sequences = s.sequences; candidates = s.candidates }
+at_time now ts s = record { tracks = ts; next = s.next; last = Some now; sequences = s.sequences; candidates = s.candidates }
 
 -- `predict_to`: marks and candidates stay, and the time is set even where no track is left
 unfoldable pub predict_reply : Cartesian3DTrackerConfig → State → ℤ → Reply State

@@ -8,14 +8,12 @@
 --   7  candidate ages: 8                                                                      remaining (Births)
 --   8  births in detection order: 11, then 5, 7                                               birthsOf (Births)
 --   9  the sensor's sequence, the time, the report                                            doneWith
-use Rattle.std.specs.Prelude.{ℕ, suc, List, [], ◌∷◌}
+use Rattle.std.specs.Prelude.{ℕ, suc, List, [], ◌∷◌, None, Some}
 use Rattle.number.specs.Reply.{Reply, given, and_then}
 use Rattle.settings.specs.declared.Cartesian3DTrackerConfig.{Cartesian3DTrackerConfig}
-use Rattle.settings.specs.declared.optional.OptionalF64.TheVariants as f64
 use Rattle.types.specs.declared.batch.ObservationBatch3D.{ObservationBatch3D}
 use Rattle.types.specs.declared.batch.ObservationAssociation.{ObservationAssociation}
 use Rattle.types.specs.declared.batch.ObservationOutcome.TheVariants.{Updated, Spawned, Unmatched}
-use Rattle.types.specs.declared.batch.AssociatedTrack.TheVariants as track
 use Rattle.types.specs.Batches.{batch_of, Report}
 use Rattle.types.specs.States.{State, state_with}
 use Rattle.tables.specs.Sequences.{noted}
@@ -33,9 +31,9 @@ pub record Done : Type 0 where
 
 -- the Rust's ObservationAssociation: a cost only where a track was updated
 abbrev pub association_of : ℕ → Fate → ObservationAssociation
-association_of i (updated m) = record { observation_index = i; track_id = track.Id m.track; outcome = Updated; cost = f64.Some m.cost }
-association_of i (spawned n) = record { observation_index = i; track_id = track.Id n; outcome = Spawned; cost = f64.None }
-association_of i unmatched = record { observation_index = i; track_id = track.None; outcome = Unmatched; cost = f64.None }
+association_of i (updated m) = record { observation_index = i; track_id = Some m.track; outcome = Updated; cost = Some m.cost }
+association_of i (spawned n) = record { observation_index = i; track_id = Some n; outcome = Spawned; cost = None }
+association_of i unmatched = record { observation_index = i; track_id = None; outcome = Unmatched; cost = None }
 
 -- one for each detection, in the batch's order, numbered from i on
 unfoldable pub associations_from : ℕ → List Fate → List ObservationAssociation

@@ -1,28 +1,21 @@
 -- What a batch makes of the tracks that are there: prediction, marks cleared, pairing, updates (stages 2 to 6 of a batch, see Process). 01, Batch: "updates in track order, in each the position's 7, 9, then
 -- the velocity's 5, 7, 9". The Rust's process_batch_inner and apply_observation.
-use Rattle.std.specs.Prelude.{ℕ, suc, true, false, List, [], ◌∷◌, map, ℤ, Float, length}
-use Rattle.std.proofs.Math.Option.{Option, none, some}
+use Rattle.detections.specs.declared.PlanarVelocity.{PlanarVelocity}
+use Rattle.std.specs.Prelude.{ℕ, suc, true, false, List, [], ◌∷◌, map, ℤ, Float, length, None, Option, Some, slice_get}
 use Rattle.std.specs.Float.{inf}
-use Rattle.std.proofs.Math.ListN.{get_elem?}
 use Rattle.number.specs.Reply.{Reply, refused, given, and_then}
 use Rattle.lifecycle.specs.Lifecycle.{registered_of}
 use Rattle.lifecycle.specs.Sensors.{sensors_of, over, recorded_of}
 use Rattle.lifecycle.specs.declared.LifecycleConfig.{LifecycleConfig}
 use Rattle.lifecycle.specs.declared.sensors.Sensors.{Sensors}
-use Rattle.settings.specs.Optional.{f64_of}
 use Rattle.settings.specs.declared.Cartesian3DTrackerConfig.{Cartesian3DTrackerConfig}
 use Rattle.lists.specs.Masks.{zipped}
 use Rattle.lists.specs.Each.{each_at}
 use Rattle.kuhn_munkres.specs.Takers.{free, taken_by}
 use Rattle.filter.specs.declared.KalmanFilter.{KalmanFilter}
 use Rattle.filter.specs.Filter.{updated_by_position, updated_by_velocity}
-use Rattle.detections.specs.declared.Class.{Class}
-use Rattle.detections.specs.declared.Class.TheVariants.{Unknown, Label}
-use Rattle.detections.specs.declared.Velocity.{Velocity}
-use Rattle.detections.specs.declared.Velocity.TheVariants.{Unmeasured, Measured}
 use Rattle.detections.specs.declared.Detection.{Detection}
 use Rattle.detections.specs.declared.pairs.PairConfig.{PairConfig}
-use Rattle.types.specs.declared.track.UpdateSensor.TheVariants.{Sensor}
 use Rattle.types.specs.declared.track.Track3D.{Track3D}
 use Rattle.types.specs.Track.{with_filter, with_lifecycle, with_label, with_timestamp, with_sensors, with_mark}
 use Rattle.calls.specs.Predict.{predicted_tracks}
@@ -36,37 +29,37 @@ pub record Moving : Type 0 where
   pub y : Float
   pub deviation : Float
 
-abbrev pub moving_of : Option Float → Velocity → Option Moving
-moving_of none v = none
-moving_of (some std) Unmeasured = none
-moving_of (some std) (Measured x y) = some (record { x = x; y = y; deviation = std })
+abbrev pub moving_of : Option Float → Option PlanarVelocity → Option Moving
+moving_of None v = None
+moving_of (Some std) None = None
+moving_of (Some std) (Some v) = Some (record { x = v.x; y = v.y; deviation = std })
 
 abbrev pub moving : Cartesian3DTrackerConfig → Detection → Option Moving
-moving c d = moving_of (f64_of c.velocity_measurement_std) d.velocity
+moving c d = moving_of (c.velocity_measurement_std) d.velocity
 
 unfoldable pub velocity_updated : Option Moving → KalmanFilter → Reply KalmanFilter
-velocity_updated none f = given f
-velocity_updated (some v) f = updated_by_velocity (v.x ∷ v.y ∷ []) v.deviation f
+velocity_updated None f = given f
+velocity_updated (Some v) f = updated_by_velocity (v.x ∷ v.y ∷ []) v.deviation f
 
 -- "the position's 7, 9, then the velocity's 5, 7, 9"
 unfoldable pub filter_updated : Option Moving → Detection → KalmanFilter → Reply KalmanFilter
 filter_updated v d f = and_then (updated_by_position d.position d.covariance f) (velocity_updated v)
 
 -- a class is set once, by the first detection that has one
-abbrev pub labelled_by : Class → Class → Class
-labelled_by Unknown seen = seen
-labelled_by (Label x) seen = Label x
+abbrev pub labelled_by : Option ℕ → Option ℕ → Option ℕ
+labelled_by None seen = seen
+labelled_by (Some x) seen = Some x
 
 -- the Rust's record_sensor, with the limit on how many a track remembers
 abbrev pub contributed_by : ℕ → ℕ → Sensors → Sensors
 contributed_by limit sensor s = over s (recorded_of (sensors_of s) sensor limit)
 
 -- the Rust's apply_observation, and the mark of this batch
-unfoldable pub observation_applied : LifecycleConfig → ℕ → ℕ → ℤ → Class → Track3D → Track3D
+unfoldable pub observation_applied : LifecycleConfig → ℕ → ℕ → ℤ → Option ℕ → Track3D → Track3D
 observation_applied life limit sensor now seen t =
     with_mark true
     (with_label (labelled_by t.class_label seen)
-    (with_sensors (Sensor sensor) (contributed_by limit sensor t.contributing_sensors)
+    (with_sensors (Some sensor) (contributed_by limit sensor t.contributing_sensors)
     (with_timestamp now (with_lifecycle (registered_of t.lifecycle now life) t))))
 
 module _ (c : Cartesian3DTrackerConfig) (sensor : ℕ) (now : ℤ) where
@@ -76,8 +69,8 @@ module _ (c : Cartesian3DTrackerConfig) (sensor : ℕ) (now : ℤ) where
       (λ f. given (observation_applied c.lifecycle c.max_contributing_sensors sensor now d.class_label (with_filter f t)))
 
   unfoldable pub updated_by : Track3D → Option Detection → Reply Track3D
-  updated_by t none = given t
-  updated_by t (some d) = updated_with t d
+  updated_by t None = given t
+  updated_by t (Some d) = updated_with t d
 
   -- "updates in track order"; `took` says which detection a row took
   unfoldable pub updates : (ℕ → Option Detection) → List Track3D → Reply (List Track3D)
@@ -102,12 +95,12 @@ entry_of (refused n) = inf false
 
 module _ (c : PairConfig) where
   unfoldable pub match_of : Option Track3D → Detection → Option Match
-  match_of none d = none
-  match_of (some t) d = some (record { track = t.id; cost = entry_of (cost_reply c t d) })
+  match_of None d = None
+  match_of (Some t) d = Some (record { track = t.id; cost = entry_of (cost_reply c t d) })
 
   unfoldable pub column_for : List Track3D → Option ℕ → Detection → Column
-  column_for ts none d = record { pair = none; detection = d }
-  column_for ts (some i) d = record { pair = match_of (get_elem? ts i) d; detection = d }
+  column_for ts None d = record { pair = None; detection = d }
+  column_for ts (Some i) d = record { pair = match_of (slice_get ts i) d; detection = d }
 
 -- the numbers of the tracks that took no detection, in track order
 unfoldable pub unmatched_from : (ℕ → Option Detection) → ℕ → List Track3D → List ℕ

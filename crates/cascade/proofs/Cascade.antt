@@ -1,8 +1,8 @@
 -- Two stages, one after the other, are the cascade. Assumes nothing.
+use Rattle.std.specs.Prelude.{Err, Ok, Result, None, Option}
 use mathlib.Core.Path.{◌≡◌, refl, sym, ap, ◌∙◌, subst}
 use mathlib.Core.Bool.{Bool, true, false, not, ◌&&◌}
 use mathlib.Core.List.{List, [], ◌∷◌, map}
-use mathlib.Core.Option.{Option, none}
 use Prim.Native.Nat.{ℕ, zero, suc, ◌*◌, ◌≤◌, ◌<◌}
 use native.Mathlib.Omega.{arith}
 use borrow.Author.Tests.{leb-true, eqb-true}
@@ -24,8 +24,6 @@ use Rattle.number.proofs.Zeros.{both}
 use Rattle.assignment.specs.Taking.{takers_of}
 use Rattle.types.specs.Refusals.{number_of, reply_of}
 use Rattle.types.specs.declared.refusal.Refusal.{Refusal}
-use Rattle.types.specs.declared.refusal.Outcome.{Outcome}
-use Rattle.types.specs.declared.refusal.Outcome.TheVariants.{Done, Refused}
 use Rattle.calls.specs.Pairing.{assigned, cascaded}
 use Rattle.kuhn_munkres.proofs.Labels.{map_at}
 use Rattle.cascade.specs.Stages.{row_name, Pointwise, stage_reply, StageAnswer, CascadeAnswer}
@@ -43,12 +41,12 @@ takers_long costs n m rowCost columnCost t e =
 
 -- ---- where no column is taken yet
 
-pub none_taken : (m k : ℕ) → m ≤ k → takers_of m (replicate k 64) ≡ replicate m none
+pub none_taken : (m k : ℕ) → m ≤ k → takers_of m (replicate k 64) ≡ replicate m None
 none_taken zero k h = refl
 none_taken (suc m) zero h = absurd (omega arith)
-none_taken (suc m) (suc k) h = ap {B = List (Option ℕ)} (λ r. none ∷ r) (none_taken m k (omega arith))
+none_taken (suc m) (suc k) h = ap {B = List (Option ℕ)} (λ r. None ∷ r) (none_taken m k (omega arith))
 
-all_free : (m : ℕ) → map free (replicate {A = Option ℕ} m none) ≡ replicate m true
+all_free : (m : ℕ) → map free (replicate {A = Option ℕ} m None) ≡ replicate m true
 unfolding free
 all_free zero = refl
 all_free (suc m) = ap {B = List Bool} (λ r. true ∷ r) (all_free m)
@@ -75,7 +73,7 @@ unfolding Every rows_of
 rows_narrow zero m l = tt
 rows_narrow (suc n) m l = (rw (length-take m l) (omega arith), rows_narrow n m (drop m l))
 
-merged_none : (m : ℕ) (l : List (Option ℕ)) → length l ≡ m → both_takers (replicate m none) l ≡ l
+merged_none : (m : ℕ) (l : List (Option ℕ)) → length l ≡ m → both_takers (replicate m None) l ≡ l
 unfolding both_takers
 merged_none zero [] h = refl
 merged_none zero (o ∷ l) h = absurd (omega arith)
@@ -94,7 +92,7 @@ module _ (gate : Float) (flags : List Bool) (n m : ℕ) (costs : List Float) whe
   abbrev second : List (Option ℕ) → Reply (List (Option ℕ))
   second t = stage_reply gate (map not flags) R t
 
-  first : stage_reply gate flags R (replicate m none) ≡ and_then (assigned gate (left_by flags R) m) (λ own. given (both_takers (replicate m none) (map (named L) own)))
+  first : stage_reply gate flags R (replicate m None) ≡ and_then (assigned gate (left_by flags R) m) (λ own. given (both_takers (replicate m None) (map (named L) own)))
   unfolding stage_reply
   first = rw (all_free m, count_all m, rows_all m (left_by flags R) (every_left (λ (r : List Float). length r ≤ m) flags R (rows_narrow n m costs)))
 
@@ -103,18 +101,18 @@ module _ (gate : Float) (flags : List Bool) (n m : ℕ) (costs : List Float) whe
   own_long one e = takers_long (in_one (left_by flags R)) (length (left_by flags R)) m gate nought one e
 
   then_second : (one : List (Option ℕ)) → length one ≡ m
-      → second (both_takers (replicate m none) (map (named L) one))
+      → second (both_takers (replicate m None) (map (named L) one))
       ≡ and_then (assigned gate (map (left_by (map free one)) (left_by (map not flags) R)) (count (map free one)))
       (λ two. given (both_takers (map (named L) one) (map (named (left_by (map not flags) (up_from 0 R))) two)))
   unfolding stage_reply
   then_second one h = rw (merged_none m (map (named L) one) (length-map one (named L) ∙ h), map_map (named L) free free (free_named L) one)
 
-  pub cascade_is : and_then (stage_reply gate flags R (replicate m none)) second ≡ cascaded gate flags R m
+  pub cascade_is : and_then (stage_reply gate flags R (replicate m None)) second ≡ cascaded gate flags R m
   unfolding cascaded
   cascade_is = ap (λ (r : Reply (List (Option ℕ))). and_then r second) first ∙ go (assigned gate (left_by flags R) m) refl
     where
       go : (r : Reply (List (Option ℕ))) → assigned gate (left_by flags R) m ≡ r
-          → and_then (and_then r (λ own. given (both_takers (replicate m none) (map (named L) own)))) second
+          → and_then (and_then r (λ own. given (both_takers (replicate m None) (map (named L) own)))) second
           ≡ and_then r (λ one. and_then (assigned gate (map (left_by (map free one)) (left_by (map not flags) R)) (count (map free one)))
           (λ two. given (both_takers (map (named L) one) (map (named (left_by (map not flags) (up_from 0 R))) two))))
       go (refused k) e = refl
@@ -151,27 +149,27 @@ module _ (flags : List Bool) (n : ℕ) (start names : List ℕ) (hn : n ≤ 64) 
     abbrev F : List Bool
     F = take n flags
 
-    nones : takers_of m before ≡ replicate m none
+    nones : takers_of m before ≡ replicate m None
     nones = ap (takers_of m) fresh ∙ none_taken m 64 hm
 
-    first_is : (r : Reply (Unit {0})) → StageAnswer costs n m gate names 0 r before mid → and_then r (λ u. given (takers_of m mid)) ≡ stage_reply gate F (rows_of n m costs) (replicate m none)
+    first_is : (r : Reply (Unit {0})) → StageAnswer costs n m gate names 0 r before mid → and_then r (λ u. given (takers_of m mid)) ≡ stage_reply gate F (rows_of n m costs) (replicate m None)
     first_is r S = rw (mask 0 (λ b. b) name_zero ∙ map_same F, nones) at S.is
 
-    pub cascade_stopped : (o : Outcome) (why : Refusal) → o ≡ Refused why → StageAnswer costs n m gate names 0 (reply_of o) before mid → CascadeAnswer costs n m gate flags (refused (number_of why)) before mid
+    pub cascade_stopped : (o : Result (Unit {0}) Refusal) (why : Refusal) → o ≡ Err why → StageAnswer costs n m gate names 0 (reply_of o) before mid → CascadeAnswer costs n m gate flags (refused (number_of why)) before mid
     cascade_stopped o why w A =
         let k : ℕ = number_of why in
-        let S = subst (λ (q : Outcome). StageAnswer costs n m gate names 0 (reply_of q) before mid) w A in
+        let S = subst (λ (q : Result (Unit {0}) Refusal). StageAnswer costs n m gate names 0 (reply_of q) before mid) w A in
         let e = first_is (refused k) S in
         record {
           long = S.long;
           is = ap (λ (r : Reply (List (Option ℕ))). and_then r (stage_reply gate (map not F) (rows_of n m costs))) e ∙ cascade_is gate F n m costs;
           rest = S.rest;
-          kept = λ j h. ap (takers_of m) (S.kept k refl) ∙ nones ∙ ap (λ (r : Reply (List (Option ℕ))). left_in r (replicate m none)) e;
+          kept = λ j h. ap (takers_of m) (S.kept k refl) ∙ nones ∙ ap (λ (r : Reply (List (Option ℕ))). left_in r (replicate m None)) e;
         }
 
-    pub cascade_done : (o : Outcome) → o ≡ Done → (r : Reply (Unit {0})) (after : List ℕ) → StageAnswer costs n m gate names 0 (reply_of o) before mid → StageAnswer costs n m gate names 1 r mid after → CascadeAnswer costs n m gate flags r before after
+    pub cascade_done : (o : Result (Unit {0}) Refusal) → o ≡ Ok tt → (r : Reply (Unit {0})) (after : List ℕ) → StageAnswer costs n m gate names 0 (reply_of o) before mid → StageAnswer costs n m gate names 1 r mid after → CascadeAnswer costs n m gate flags r before after
     cascade_done o w r after A T =
-        let S = subst (λ (q : Outcome). StageAnswer costs n m gate names 0 (reply_of q) before mid) w A in
+        let S = subst (λ (q : Result (Unit {0}) Refusal). StageAnswer costs n m gate names 0 (reply_of q) before mid) w A in
         let e = first_is (given tt) S in
         record {
           long = T.long;
@@ -179,5 +177,5 @@ module _ (flags : List Bool) (n : ℕ) (start names : List ℕ) (hn : n ≤ 64) 
               (rw (mask 1 not name_one) at T.is)
               ∙ ap (λ (r : Reply (List (Option ℕ))). and_then r (stage_reply gate (map not F) (rows_of n m costs))) e ∙ cascade_is gate F n m costs;
           rest = λ j h. T.rest j h ∙ S.rest j h;
-          kept = λ j h. ap (takers_of m) (T.kept j h) ∙ ap (λ (r : Reply (List (Option ℕ))). left_in r (replicate m none)) e;
+          kept = λ j h. ap (takers_of m) (T.kept j h) ∙ ap (λ (r : Reply (List (Option ℕ))). left_in r (replicate m None)) e;
         }

@@ -1,8 +1,8 @@
 -- A stage of the code is a stage of the definition. Assumes nothing.
+use Rattle.std.specs.Prelude.{Err, Ok, Result, None, Option, Some}
 use mathlib.Core.Path.{◌≡◌, refl, sym, ap, ◌∙◌, subst}
 use mathlib.Core.Bool.{Bool, true, false, cond}
 use mathlib.Core.List.{List, [], ◌∷◌, map}
-use mathlib.Core.Option.{Option, none, some}
 use Prim.Native.Nat.{ℕ, ◌+◌, ◌*◌, ◌≤◌, ◌<◌}
 use native.Mathlib.Decide.{dec_lt}
 use native.Mathlib.Nat.{mul-le-mul_right}
@@ -31,17 +31,15 @@ use Rattle.assignment.specs.Taking.{takers_of}
 use Rattle.calls.specs.Pairing.{assigned}
 use Rattle.types.specs.Refusals.{number_of, reply_of}
 use Rattle.types.specs.declared.refusal.Refusal.{Refusal}
-use Rattle.types.specs.declared.refusal.Outcome.{Outcome}
-use Rattle.types.specs.declared.refusal.Outcome.TheVariants.{Done, Refused}
 use Rattle.cascade.specs.Stages.{column_name, member_of, scattered_at, Pointwise, stage_reply, StageAnswer}
 
 -- putting back at the columns that are free
 spread_merged : (t l : List (Option ℕ)) → spread (map free t) l t ≡ both_takers t l
 unfolding spread both_takers free
 spread_merged [] l = refl
-spread_merged (some i ∷ t) l = ap {B = List (Option ℕ)} (λ r. some i ∷ r) (spread_merged t l)
-spread_merged (none ∷ t) [] = ap {B = List (Option ℕ)} (λ r. none ∷ r) (spread_merged t [])
-spread_merged (none ∷ t) (o ∷ l) = ap {B = List (Option ℕ)} (λ r. o ∷ r) (spread_merged t l)
+spread_merged (Some i ∷ t) l = ap {B = List (Option ℕ)} (λ r. Some i ∷ r) (spread_merged t l)
+spread_merged (None ∷ t) [] = ap {B = List (Option ℕ)} (λ r. None ∷ r) (spread_merged t [])
+spread_merged (None ∷ t) (o ∷ l) = ap {B = List (Option ℕ)} (λ r. o ∷ r) (spread_merged t l)
 
 -- a column bears the stage's name where no row has taken it
 free_name : (g x : ℕ) → free (row_or x) ≡ eqb (column_name g x) g
@@ -66,14 +64,14 @@ module _ (costs : List Float) (n m : ℕ) (rowNames columnNames before : List �
   takers_long : (l : List ℕ) → length l ≡ 64 → length (takers_of m l) ≡ m
   takers_long l h = length-map (take m l) row_or ∙ length-take-le m l (rw h hm)
 
-  before_at : (j : ℕ) → j < m → get_or (takers_of m before) j none ≡ row_or (get_or before j 0)
-  before_at j h = map_at row_or (take m before) j 0 none (rw (length-take-le m before (rw before-long hm)) h) ∙ ap row_or (get_or-take m before j 0 h)
+  before_at : (j : ℕ) → j < m → get_or (takers_of m before) j None ≡ row_or (get_or before j 0)
+  before_at j h = map_at row_or (take m before) j 0 None (rw (length-take-le m before (rw before-long hm)) h) ∙ ap row_or (get_or-take m before j 0 h)
 
   cm_long : length cm ≡ m
   cm_long = length-map (takers_of m before) free ∙ takers_long before before-long
 
   cm_at : (j : ℕ) → j < m → get_or cm j false ≡ bears columnNames g j
-  cm_at j h = map_at free (takers_of m before) j none false (rw (takers_long before before-long) h) ∙ ap free (before_at j h) ∙ free_name g (get_or before j 0) ∙ ap (λ (x : ℕ). eqb x g) (sym (names j h))
+  cm_at j h = map_at free (takers_of m before) j None false (rw (takers_long before before-long) h) ∙ ap free (before_at j h) ∙ free_name g (get_or before j 0) ∙ ap (λ (x : ℕ). eqb x g) (sym (names j h))
 
   rm_long : length rm ≡ n
   rm_long = length-map (take n rowNames) (λ x. eqb x g) ∙ length-take-le n rowNames (rw rows_long hn)
@@ -141,8 +139,8 @@ module _ (costs : List Float) (n m : ℕ) (rowNames columnNames before : List �
         go (yes h) d =
             let a = few in
             let l : x < 64 = omega arith in
-            rw (lt-ltb x r h, lt-ltb x 64 l, lt-ltb (get_or members x 0) 64 (small x h)) (ap some (get_or-take r members x 0 h))
-        go (no h) (yes l) = rw (le-ltb x r (omega arith), lt-ltb x 64 l) (ap some (get_or-eq_default (take r members) 0 {n = x} (rw members_front (omega arith))))
+            rw (lt-ltb x r h, lt-ltb x 64 l, lt-ltb (get_or members x 0) 64 (small x h)) (ap Some (get_or-take r members x 0 h))
+        go (no h) (yes l) = rw (le-ltb x r (omega arith), lt-ltb x 64 l) (ap Some (get_or-eq_default (take r members) 0 {n = x} (rw members_front (omega arith))))
         go (no h) (no l) = rw (le-ltb x r (omega arith), le-ltb x 64 (omega arith))
 
     -- what the stage makes of the pairing of its own table
@@ -153,12 +151,12 @@ module _ (costs : List Float) (n m : ℕ) (rowNames columnNames before : List �
     unfolding stage_reply
     stage_is y e = ap (λ (z : Reply (List (Option ℕ))). and_then z put) (e ∙ sym stage_assigned)
 
-    pub stage_refused : (o : Outcome) (why : Refusal) (x : List (Option ℕ)) → o ≡ Refused why → and_then (reply_of o) (λ u. given x) ≡ takers_reply (take (r * c) own) r c gate nought
+    pub stage_refused : (o : Result (Unit {0}) Refusal) (why : Refusal) (x : List (Option ℕ)) → o ≡ Err why → and_then (reply_of o) (λ u. given x) ≡ takers_reply (take (r * c) own) r c gate nought
         → StageAnswer costs n m gate rowNames g (refused (number_of why)) before before
     stage_refused o why x e w =
         record {
           long = before-long;
-          is = stage_is (refused (number_of why)) (sym (ap {B = Reply (List (Option ℕ))} (λ (q : Outcome). and_then (reply_of q) (λ u. given x)) e) ∙ w);
+          is = stage_is (refused (number_of why)) (sym (ap {B = Reply (List (Option ℕ))} (λ (q : Result (Unit {0}) Refusal). and_then (reply_of q) (λ u. given x)) e) ∙ w);
           rest = λ j h. refl;
           kept = λ k h. refl;
         }
@@ -173,39 +171,39 @@ module _ (costs : List Float) (n m : ℕ) (rowNames columnNames before : List �
       l_long : length l ≡ c
       l_long = length-map (takers_of c pk) (named (take r members)) ∙ length-map (take c pk) row_or ∙ front_long
 
-      l_at : (k : ℕ) → k < c → get_or l k none ≡ row_or (member_of members r (get_or pk k 0))
+      l_at : (k : ℕ) → k < c → get_or l k None ≡ row_or (member_of members r (get_or pk k 0))
       l_at k h =
-          map_at (named (take r members)) (takers_of c pk) k none none (rw (length-map (take c pk) row_or ∙ front_long) h)
-          ∙ ap (named (take r members)) (map_at row_or (take c pk) k 0 none (rw front_long h) ∙ ap row_or (get_or-take c pk k 0 h))
+          map_at (named (take r members)) (takers_of c pk) k None None (rw (length-map (take c pk) row_or ∙ front_long) h)
+          ∙ ap (named (take r members)) (map_at row_or (take c pk) k 0 None (rw front_long h) ∙ ap row_or (get_or-take c pk k 0 h))
           ∙ named_is (get_or pk k 0)
 
-      by : (j : ℕ) → j < m → (b : Bool) → bears columnNames g j ≡ b → row_or (cond b (member_of members r (get_or pk (ticks (bears columnNames g) j) 0)) (get_or before j 0)) ≡ cond b (get_or l (ticks (bears columnNames g) j) none) (row_or (get_or before j 0))
+      by : (j : ℕ) → j < m → (b : Bool) → bears columnNames g j ≡ b → row_or (cond b (member_of members r (get_or pk (ticks (bears columnNames g) j) 0)) (get_or before j 0)) ≡ cond b (get_or l (ticks (bears columnNames g) j) None) (row_or (get_or before j 0))
       by j h true e = sym (l_at (ticks (bears columnNames g) j) (rw c-is (ticks_below (bears columnNames g) j m h e)))
       by j h false e = refl
 
-      at : (j : ℕ) → j < m → get_or (takers_of m after) j none ≡ get_or (spread cm l (takers_of m before)) j none
+      at : (j : ℕ) → j < m → get_or (takers_of m after) j None ≡ get_or (spread cm l (takers_of m before)) j None
       at j h =
-          let a : get_or (takers_of m after) j none ≡ row_or (get_or after j 0) = map_at row_or (take m after) j 0 none (rw (length-take-le m after (rw s.long hm)) h) ∙ ap row_or (get_or-take m after j 0 h) in
+          let a : get_or (takers_of m after) j None ≡ row_or (get_or after j 0) = map_at row_or (take m after) j 0 None (rw (length-take-le m after (rw s.long hm)) h) ∙ ap row_or (get_or-take m after j 0 h) in
           let u : ticks (λ i. get_or cm i false) j ≡ ticks (bears columnNames g) j = ticks_same _ _ j (λ i q. cm_at i (omega arith)) in
           let v : ticks (λ i. get_or cm i false) (length cm) ≡ c = ap (ticks (λ i. get_or cm i false)) cm_long ∙ ticks_same _ _ m (λ i q. cm_at i q) ∙ sym c-is in
           a ∙ ap row_or (s.done j h) ∙ by j h (bears columnNames g j) refl
-          ∙ sym (spread_at none cm l (takers_of m before) j (cm_long ∙ sym (takers_long before before-long)) (rw (takers_long before before-long) h) (rw (v, l_long) (omega arith))
+          ∙ sym (spread_at None cm l (takers_of m before) j (cm_long ∙ sym (takers_long before before-long)) (rw (takers_long before before-long) h) (rw (v, l_long) (omega arith))
           ∙ rw (cm_at j h, u, before_at j h))
 
       pub stage_scattered : takers_of m after ≡ both_takers (takers_of m before) (map (named (left_by rm (up_from 0 R))) (takers_of c pk))
       stage_scattered =
           rw (members_is, ← G.members_are)
-          (ext_get_or none (takers_of m after) (spread cm l (takers_of m before)) (takers_long after s.long ∙ sym (spread_long cm l (takers_of m before) (cm_long ∙ sym (takers_long before before-long)) ∙ takers_long before before-long))
+          (ext_get_or None (takers_of m after) (spread cm l (takers_of m before)) (takers_long after s.long ∙ sym (spread_long cm l (takers_of m before) (cm_long ∙ sym (takers_long before before-long)) ∙ takers_long before before-long))
           (λ j q. at j (rw (takers_long after s.long) at q))
           ∙ spread_merged (takers_of m before) l)
 
-      pub stage_done : (o : Outcome) → o ≡ Done → and_then (reply_of o) (λ u. given (takers_of c pk)) ≡ takers_reply (take (r * c) own) r c gate nought → StageAnswer costs n m gate rowNames g (given tt) before after
+      pub stage_done : (o : Result (Unit {0}) Refusal) → o ≡ Ok tt → and_then (reply_of o) (λ u. given (takers_of c pk)) ≡ takers_reply (take (r * c) own) r c gate nought → StageAnswer costs n m gate rowNames g (given tt) before after
       stage_done o e w =
           record {
             long = s.long;
             is =
                 ap {B = Reply (List (Option ℕ))} given stage_scattered
-                ∙ stage_is (given (takers_of c pk)) (sym (ap {B = Reply (List (Option ℕ))} (λ (q : Outcome). and_then (reply_of q) (λ u. given (takers_of c pk))) e) ∙ w);
+                ∙ stage_is (given (takers_of c pk)) (sym (ap {B = Reply (List (Option ℕ))} (λ (q : Result (Unit {0}) Refusal). and_then (reply_of q) (λ u. given (takers_of c pk))) e) ∙ w);
             rest = s.rest;
             kept = λ k h. absurd (let z : ◌≡◌ {A = ℕ} 0 1 = cc in omega arith);
           }

@@ -1,30 +1,27 @@
 -- The pairing of a whole table, with what was given. Assumes nothing.
 use mathlib.Core.Path.{◌≡◌, refl, sym, ap, ◌∙◌}
 use mathlib.Core.List.{List, [], ◌∷◌, ◌++◌}
-use mathlib.Core.Option.{Option}
 use Prim.Native.Nat.{ℕ, zero, suc, ◌*◌}
 use native.Mathlib.Nat.{suc-mul, zero-mul}
 use native.Mathlib.Omega.{arith}
 use lib.Ieee.{Float}
 use lib.ListN.{length, take, drop, length-drop, take-append-drop}
+use Rattle.std.specs.Prelude.{Result, Ok, Err, Option}
 use Rattle.number.specs.Reply.{Reply, given, and_then}
 use Rattle.kuhn_munkres.specs.Assignment.{rows_of, in_one, takers_reply}
 use Rattle.matrix.specs.Matrix.{nought}
 use Rattle.kuhn_munkres.proofs.Rows.{rows_count}
-use Rattle.assignment.specs.declared.Outcome.{Outcome}
-use Rattle.assignment.specs.declared.Outcome.TheVariants.{Given, TooMany, NonFinite, Failed}
+use Rattle.assignment.specs.declared.AssignmentError.{AssignmentError}
 use Rattle.assignment.specs.Replies.{reply_of}
 use Rattle.calls.specs.Pairing.{assigned}
 
--- the outcome with what was given
-pub with_takers : (o : Outcome) (x : List (Option ℕ)) (r : Reply (Unit {0})) → r ≡ reply_of o tt → and_then r (λ u. given x) ≡ reply_of o x
+-- the answer with what was given
+pub with_takers : (o : Result (Unit {0}) AssignmentError) (x : List (Option ℕ)) (r : Reply (Unit {0})) → r ≡ reply_of o tt → and_then r (λ u. given x) ≡ reply_of o x
 with_takers o x r e = ap {B = Reply (List (Option ℕ))} (λ (y : Reply (Unit {0})). and_then y (λ u. given x)) e ∙ by o
   where
-    by : (o : Outcome) → and_then (reply_of {A = Unit {0}} o tt) (λ u. given x) ≡ reply_of o x
-    by Given = refl
-    by TooMany = refl
-    by NonFinite = refl
-    by Failed = refl
+    by : (o : Result (Unit {0}) AssignmentError) → and_then (reply_of {A = Unit {0}} o tt) (λ u. given x) ≡ reply_of o x
+    by (Ok u) = refl
+    by (Err why) = refl
 
 -- a table cut into rows, and put together
 in_one_rows : (n m : ℕ) (l : List Float) → length l ≡ n * m → in_one (rows_of n m l) ≡ l

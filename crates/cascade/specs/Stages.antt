@@ -1,6 +1,5 @@
 -- A stage of the cascade by names: rows and columns of the stage bear its number g.
-use Rattle.std.specs.Prelude.{ℕ, ◌+◌, ◌≤◌, ◌<◌, ◌≡◌, Bool, cond, List, map, eqb, ltb, Float, length, get_or, take, replicate}
-use Rattle.std.proofs.Math.Option.{Option, none}
+use Rattle.std.specs.Prelude.{ℕ, ◌+◌, ◌≤◌, ◌<◌, ◌≡◌, Bool, cond, List, map, eqb, ltb, Float, length, get_or, take, replicate, None, Option}
 use Rattle.number.specs.Reply.{Reply, refused, given, and_then, left_in}
 use Rattle.lists.specs.Masks.{left_by, count, up_from}
 use Rattle.kuhn_munkres.specs.Takers.{free, both_takers}
@@ -47,4 +46,4 @@ pub record CascadeAnswer (costs : List Float) (n m : ℕ) (gate : Float) (flags 
   pub long : length after ≡ 64
   pub is : and_then reply (λ u. given (takers_of m after)) ≡ cascaded gate (take n flags) (rows_of n m costs) m
   pub rest : (j : ℕ) → m ≤ j → get_or after j 0 ≡ get_or before j 0
-  pub kept : (k : ℕ) → reply ≡ refused k → takers_of m after ≡ left_in (stage_reply gate (take n flags) (rows_of n m costs) (replicate m none)) (replicate m none)
+  pub kept : (k : ℕ) → reply ≡ refused k → takers_of m after ≡ left_in (stage_reply gate (take n flags) (rows_of n m costs) (replicate m None)) (replicate m None)

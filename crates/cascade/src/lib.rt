@@ -10,7 +10,7 @@ ghost use Rattle.assignment.specs.Taking.{takers_of};
 ghost use Rattle.types.specs.Refusals.{reply_of};
 ghost use Rattle.cascade.specs.Stages.{row_name, column_name, member_of, scattered_at, Pointwise, StageAnswer, CascadeAnswer};
 
-use types::refusal::Outcome;
+use types::refusal::Refusal;
 
 // The name of a row: 0 for a recent one, 1 for another.
 fn row_name(recent: bool) -> usize
@@ -24,10 +24,8 @@ fn name_rows(flags: &[bool; 64], n: usize, names: &mut [usize; 64])
     requires { (n ≤ 64) × (length names.old ≡ 64) }
     ensures { Pointwise (λ i. row_name (get_or flags.now i false)) n names.old names.new }
 {
-    let mut i: usize = 0;
-    while i < n {
+    for i in 0..n {
         names[i] = row_name(flags[i]);
-        i += 1;
     }
 }
 
@@ -44,10 +42,8 @@ fn name_columns(takers: &[usize; 64], m: usize, g: usize, names: &mut [usize; 64
     requires { (m ≤ 64) × (g < 2) × (length names.old ≡ 64) }
     ensures { Pointwise (λ j. column_name g (get_or takers.now j 0)) m names.old names.new }
 {
-    let mut j: usize = 0;
-    while j < m {
+    for j in 0..m {
         names[j] = column_name(takers[j], g);
-        j += 1;
     }
 }
 
@@ -77,15 +73,11 @@ fn scatter(
     ensures { Pointwise (scattered_at names.now g picked.now r members.now takers.old) m takers.old takers.new }
 {
     let mut k: usize = 0;
-    let mut j: usize = 0;
-    while j < m {
+    for j in 0..m {
         if names[j] == g {
             takers[j] = member(picked[k], r, members);
             k += 1;
-            j += 1;
-            continue;
         }
-        j += 1;
     }
 }
 
@@ -96,7 +88,7 @@ fn solve_front(
     columns: usize,
     gate: f64,
     picked: &mut [usize; 64],
-) -> Outcome
+) -> Result<(), Refusal>
     requires { (rows ≤ 64) × (columns ≤ 64) × (rows * columns ≤ length own.now) × (picked.old ≡ replicate 64 64) }
     ensures { (and_then (reply_of result) (λ _. given (takers_of columns picked.new)) ≡ takers_reply (take (rows * columns) own.now) rows columns gate nought) × (length picked.new ≡ 64) }
 {
@@ -120,7 +112,7 @@ fn pair_stage(
     names: &[usize; 64],
     g: usize,
     takers: &mut [usize; 64],
-) -> Outcome
+) -> Result<(), Refusal>
     requires { (n ≤ 64) × (m ≤ 64) × (g < 2) × (length costs.now ≡ n * m) × (length names.now ≡ 64) × (length takers.old ≡ 64) }
     ensures { StageAnswer costs.now n m gate names.now g (reply_of result) takers.old takers.new }
 {
@@ -131,13 +123,9 @@ fn pair_stage(
     name_columns(takers, m, g, &mut columns);
     let c = assignment::table::count_named(&columns, m, g);
     let r = assignment::table::gather(costs, n, m, names, &columns, g, &mut own, &mut members);
-    match solve_front(&own, r, c, gate, &mut picked) {
-        Outcome::Done => {
-            scatter(&columns, m, g, &picked, r, &members, takers);
-            Outcome::Done
-        }
-        Outcome::Refused(why) => Outcome::Refused(why),
-    }
+    solve_front(&own, r, c, gate, &mut picked)?;
+    scatter(&columns, m, g, &picked, r, &members, takers);
+    Ok(())
 }
 
 // The row that takes each column, into `takers`, which has 64 everywhere at first: recent rows first, then the others on what is left.
@@ -149,21 +137,25 @@ pub fn pair_cascade(
     gate: f64,
     flags: &[bool; 64],
     takers: &mut [usize; 64],
-) -> Outcome
+) -> Result<(), Refusal>
     requires { (n ≤ 64) × (m ≤ 64) × (length costs.now ≡ n * m) × (length flags.now ≡ 64) × (takers.old ≡ replicate 64 64) × (length takers.old ≡ 64) }
     ensures { CascadeAnswer costs.now n m gate flags.now (reply_of result) takers.old takers.new }
 {
     let mut names = [0usize; 64];
     name_rows(flags, n, &mut names);
-    match pair_stage(costs, n, m, gate, &names, 0, takers) {
-        Outcome::Done => pair_stage(costs, n, m, gate, &names, 1, takers),
-        Outcome::Refused(why) => Outcome::Refused(why),
-    }
+    pair_stage(costs, n, m, gate, &names, 0, takers)?;
+    pair_stage(costs, n, m, gate, &names, 1, takers)
 }
 
 // The row that takes each column of the whole table, in one stage, into `takers`, which has 64 everywhere at first.
 // A leaf, as above. What a refusal leaves in `takers` is open but for their number; no caller reads it.
-pub fn pair_all(costs: &[f64], n: usize, m: usize, gate: f64, takers: &mut [usize; 64]) -> Outcome
+pub fn pair_all(
+    costs: &[f64],
+    n: usize,
+    m: usize,
+    gate: f64,
+    takers: &mut [usize; 64],
+) -> Result<(), Refusal>
     requires { (length costs.now ≡ n * m) × (takers.old ≡ replicate 64 64) }
     ensures { (and_then (reply_of result) (λ _. given (takers_of m takers.new)) ≡ assigned gate (rows_of n m costs.now) m) × (length takers.new ≡ 64) }
 {

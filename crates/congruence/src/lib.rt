@@ -1,4 +1,4 @@
-// What a 6 by 6 matrix a makes of a covariance p, (a p) times the transpose of a, by value: each entry is summed from its first term to its last.
+// What a matrix a makes of a covariance p, (a p) times the transpose of a, by value: each entry is summed from its first term to its last.
 #![tactic(auto)]
 
 ghost use Rattle.std.specs.Prelude.{◌≡◌, ◌<◌};
@@ -6,84 +6,79 @@ ghost use Rattle.std.specs.Float.{binary64};
 ghost use Rattle.std.specs.Float.Ieee.{mul};
 ghost use Rattle.matrix.specs.Matrix.{item, row, entry, tabulate, sum_of, row_times, product, transposed, congruence};
 
-// Column j of b.
-fn column_6x6(b: [[f64; 6]; 6], j: usize) -> [f64; 6]
-    requires { j < 6 }
-    ensures { result ≡ tabulate 6 (λ k. entry b k j) }
-{
-    [b[0][j], b[1][j], b[2][j], b[3][j], b[4][j], b[5][j]]
-}
+use std::array::from_fn;
 
 // x times column j of b.
-fn dot_column_6x6(x: [f64; 6], b: [[f64; 6]; 6], j: usize) -> f64
-    requires { j < 6 }
-    ensures { result ≡ sum_of 6 (λ k. mul binary64 (item x k) (entry b k j)) }
+fn dot_column<const M: usize, const P: usize>(x: [f64; M], b: [[f64; P]; M], j: usize) -> f64
+    requires { j < P }
+    ensures { result ≡ sum_of M (λ k. mul binary64 (item x.entry k) (entry b.entry k j)) }
 {
-    product::dot6(x, column_6x6(b, j))
+    sums::sum::<M>(from_fn(
+        |k| -> f64
+            requires { (k < M) × (j < P) }
+            ensures { result ≡ mul binary64 (item x k) (entry b k j) }
+        { x[k] * b[k][j] },
+    ))
 }
 
-// Row i of a times b.
-fn row_times_6x6(a: [[f64; 6]; 6], i: usize, b: [[f64; 6]; 6]) -> [f64; 6]
-    requires { i < 6 }
-    ensures { result ≡ row_times 6 6 (row a i) b }
+// The row x times b.
+fn row_times<const M: usize, const P: usize>(x: [f64; M], b: [[f64; P]; M]) -> [f64; P]
+    ensures { result ≡ row_times M P x.entry b.entry }
 {
-    let x = a[i];
-    [
-        dot_column_6x6(x, b, 0),
-        dot_column_6x6(x, b, 1),
-        dot_column_6x6(x, b, 2),
-        dot_column_6x6(x, b, 3),
-        dot_column_6x6(x, b, 4),
-        dot_column_6x6(x, b, 5),
-    ]
+    from_fn(
+        |j| -> f64
+            requires { j < P }
+            ensures { result ≡ sum_of M (λ k. mul binary64 (item x k) (entry b k j)) }
+        { dot_column(x, b, j) },
+    )
 }
 
 // a times b.
-fn mul_6x6_6x6(a: [[f64; 6]; 6], b: [[f64; 6]; 6]) -> [[f64; 6]; 6]
-    ensures { result ≡ product 6 6 6 a b }
+fn product<const N: usize, const M: usize, const P: usize>(
+    a: [[f64; M]; N],
+    b: [[f64; P]; M],
+) -> [[f64; P]; N]
+    ensures { result ≡ product N M P a.entry b.entry }
 {
-    [
-        row_times_6x6(a, 0, b),
-        row_times_6x6(a, 1, b),
-        row_times_6x6(a, 2, b),
-        row_times_6x6(a, 3, b),
-        row_times_6x6(a, 4, b),
-        row_times_6x6(a, 5, b),
-    ]
+    from_fn(
+        |i| -> [f64; P]
+            requires { i < N }
+            ensures { result ≡ row_times M P (row a i) b }
+        { row_times(a[i], b) },
+    )
+}
+
+// Column j of a.
+fn column<const N: usize, const P: usize>(a: [[f64; P]; N], j: usize) -> [f64; N]
+    requires { j < P }
+    ensures { result ≡ tabulate N (λ i. entry a.entry i j) }
+{
+    from_fn(
+        |i| -> f64
+            requires { (i < N) × (j < P) }
+            ensures { result ≡ entry a i j }
+        { a[i][j] },
+    )
 }
 
 // The transpose of a.
-fn transposed_6x6(a: [[f64; 6]; 6]) -> [[f64; 6]; 6]
-    ensures { result ≡ transposed 6 6 a }
+fn transposed<const N: usize, const P: usize>(a: [[f64; P]; N]) -> [[f64; N]; P]
+    ensures { result ≡ transposed N P a.entry }
 {
-    [
-        column_6x6(a, 0),
-        column_6x6(a, 1),
-        column_6x6(a, 2),
-        column_6x6(a, 3),
-        column_6x6(a, 4),
-        column_6x6(a, 5),
-    ]
+    from_fn(
+        |j| -> [f64; N]
+            requires { j < P }
+            ensures { result ≡ tabulate N (λ i. entry a i j) }
+        { column(a, j) },
+    )
 }
 
-// a times the transpose of b, which is laid out first, so that two columns are done at a time.
-fn mul_6x6_transposed_6x6(a: [[f64; 6]; 6], b: [[f64; 6]; 6]) -> [[f64; 6]; 6]
-    ensures { result ≡ product 6 6 6 a (transposed 6 6 b) }
+// (a p) times the transpose of a, which is laid out first, so that two columns are done at a time.
+pub fn congruence<const N: usize, const M: usize>(
+    a: [[f64; M]; N],
+    p: [[f64; M]; M],
+) -> [[f64; N]; N]
+    ensures { result ≡ congruence N M a.entry p.entry }
 {
-    let t = transposed_6x6(b);
-    [
-        row_times_6x6(a, 0, t),
-        row_times_6x6(a, 1, t),
-        row_times_6x6(a, 2, t),
-        row_times_6x6(a, 3, t),
-        row_times_6x6(a, 4, t),
-        row_times_6x6(a, 5, t),
-    ]
-}
-
-// (a p) times the transpose of a.
-pub fn congruence_6x6(a: [[f64; 6]; 6], p: [[f64; 6]; 6]) -> [[f64; 6]; 6]
-    ensures { result ≡ congruence 6 6 a p }
-{
-    mul_6x6_transposed_6x6(mul_6x6_6x6(a, p), a)
+    product(product(a, p), transposed(a))
 }

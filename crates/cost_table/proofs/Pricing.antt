@@ -1,4 +1,6 @@
 -- What a pair costs by the factor that is held, and what of the detections the table reads. Assumes nothing.
+use Rattle.std.specs.Prelude.{Option}
+use Rattle.cholesky.specs.declared.Lower3.{Lower3}
 use mathlib.Core.Path.{◌≡◌, refl, sym, ap, ◌∙◌, subst}
 use mathlib.Core.Bool.{Bool, true, false}
 use mathlib.Core.List.{List, [], ◌∷◌, map}
@@ -10,11 +12,9 @@ use lib.Seq.{sets, take_all}
 use Rattle.number.specs.Reply.{Reply, given, and_then}
 use Rattle.matrix.specs.Matrix.{Vector, Matrix}
 use Rattle.lists.specs.Each.{each}
-use Rattle.cholesky.specs.declared.Factor3.{Factor3}
 use Rattle.cholesky.specs.Factor.{reply_of_factor3}
 use Rattle.filter.specs.Filter.{factor_from, distance_with}
 use Rattle.filter.proofs.Split.{distance_factored}
-use Rattle.detections.specs.declared.Class.{Class}
 use Rattle.detections.specs.declared.Detection.{Detection}
 use Rattle.detections.specs.declared.pairs.PairConfig.{PairConfig}
 use Rattle.detections.specs.declared.pairs.Target.{Target}
@@ -33,7 +33,7 @@ use Rattle.cost_table.specs.Table.{priced_by, with_rows, front_rows, Tabled}
 abbrev costs : Reply Ruling → Reply Float
 costs r = and_then r (λ v. given (cost_of v))
 
-module _ (c : PairConfig) (t : Target) (z : Vector) (seen : Class) where
+module _ (c : PairConfig) (t : Target) (z : Vector) (seen : Option ℕ) where
   -- by what the code does
   pub priced_near : (factor : Reply Matrix) → compatible t.class_label seen ≡ true → (v : Reply Ruling) → v ≡ measured c t.class_prior seen (distance_with t.expected z factor) → costs v ≡ priced_by c t z seen factor
   unfolding priced_by
@@ -50,11 +50,11 @@ module _ (c : PairConfig) (t : Target) (z : Vector) (seen : Class) where
 
   module _ (noises : List Vector) (k j : ℕ) (same : get_or noises k [] ≡ get_or noises j []) where
     -- by one that was just worked out
-    pub priced_new : (f : Factor3) → reply_of_factor3 f ≡ factor_from t.expected (get_or noises j []) → priced_by c t z seen (reply_of_factor3 f) ≡ price_reply c t (sight z (get_or noises j []) seen)
+    pub priced_new : (f : Option Lower3) → reply_of_factor3 f ≡ factor_from t.expected (get_or noises j []) → priced_by c t z seen (reply_of_factor3 f) ≡ price_reply c t (sight z (get_or noises j []) seen)
     priced_new f e = ap (priced_by c t z seen) e ∙ priced_own (get_or noises j [])
 
     -- by the one that is held, where it serves
-    pub priced_held : (f : Factor3) (held : ℕ) → (held < 64 → reply_of_factor3 f ≡ factor_from t.expected (get_or noises held [])) → k < 64 → (compatible t.class_label seen ≡ true → held ≡ k)
+    pub priced_held : (f : Option Lower3) (held : ℕ) → (held < 64 → reply_of_factor3 f ≡ factor_from t.expected (get_or noises held [])) → k < 64 → (compatible t.class_label seen ≡ true → held ≡ k)
         → priced_by c t z seen (reply_of_factor3 f) ≡ price_reply c t (sight z (get_or noises j []) seen)
     priced_held f held s l w = by (compatible t.class_label seen) refl
       where

@@ -1,4 +1,5 @@
 -- What a loop over the rows of a table has laid by row i. Assumes nothing.
+use Rattle.std.specs.Prelude.{Err, Ok, Result}
 use mathlib.Core.Path.{◌≡◌, refl, sym, ap, ◌∙◌, subst}
 use mathlib.Core.List.{List, [], ◌∷◌, ◌++◌, append_assoc, append-nil}
 use Prim.Native.Nat.{ℕ, suc, ◌+◌, ◌*◌, ◌≤◌, ◌<◌}
@@ -15,8 +16,6 @@ use Rattle.number.proofs.Replies.{never_given}
 use Rattle.detections.specs.declared.Detection.{Detection}
 use Rattle.detections.specs.declared.pairs.PairConfig.{PairConfig}
 use Rattle.types.specs.declared.refusal.Refusal.{Refusal}
-use Rattle.types.specs.declared.refusal.Outcome.{Outcome}
-use Rattle.types.specs.declared.refusal.Outcome.TheVariants.{Done, Refused}
 use Rattle.types.specs.Refusals.{number_of, reply_of}
 use Rattle.pairing.specs.declared.Row.{Row}
 use Rattle.pairing.specs.Rows.{price_reply, row_costs}
@@ -132,13 +131,13 @@ module _ (c : PairConfig) (all : List Row) (ds : List Detection) (before : List 
   Rows i after = Tabling (row_price c) all ds i before after
 
   module _ (i k : ℕ) (mid after : List Float) (a : Row) (s : Rows i mid) (w : k ≡ i * length ds) where
-    pub table_more : (o : Outcome) → i < length all → o ≡ Done → Laid (price_reply c (get_or all i a).target) ds k (reply_of o) mid after → Rows (i + 1) after
-    table_more o h q p = tabling_more (row_price c) all ds before i k mid after a s h w (subst (λ (z : Outcome). Laid (row_price c (get_or all i a)) ds k (reply_of z) mid after) q p)
+    pub table_more : (o : Result (Unit {0}) Refusal) → i < length all → o ≡ Ok tt → Laid (price_reply c (get_or all i a).target) ds k (reply_of o) mid after → Rows (i + 1) after
+    table_more o h q p = tabling_more (row_price c) all ds before i k mid after a s h w (subst (λ (z : Result (Unit {0}) Refusal). Laid (row_price c (get_or all i a)) ds k (reply_of z) mid after) q p)
 
-    pub table_stops : (n : ℕ) (o : Outcome) (why : Refusal) → i < n → n ≤ length all → o ≡ Refused why → Laid (price_reply c (get_or all i a).target) ds k (reply_of o) mid after → Tabled c (take n all) ds (refused (number_of why)) before after
+    pub table_stops : (n : ℕ) (o : Result (Unit {0}) Refusal) (why : Refusal) → i < n → n ≤ length all → o ≡ Err why → Laid (price_reply c (get_or all i a).target) ds k (reply_of o) mid after → Tabled c (take n all) ds (refused (number_of why)) before after
     unfolding row_costs
     table_stops n o why h l q p =
-        let z = tabling_stops (row_price c) all ds before n i k mid after a (number_of why) s h l w (subst (λ (z : Outcome). Laid (row_price c (get_or all i a)) ds k (reply_of z) mid after) q p) in
+        let z = tabling_stops (row_price c) all ds before n i k mid after a (number_of why) s h l w (subst (λ (z : Result (Unit {0}) Refusal). Laid (row_price c (get_or all i a)) ds k (reply_of z) mid after) q p) in
         record { is = sym (ap (λ (x : Reply (List (List Float))). and_then x (λ rows. given tt)) z.0); content = z.1 }
 
   pub table_all : (n i : ℕ) (after : List Float) → i ≡ n → Rows i after → Tabled c (take n all) ds (given tt) before after

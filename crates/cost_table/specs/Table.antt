@@ -1,10 +1,10 @@
 -- The cost table in one array. 01, Assignment: "The cost table is lent as 64-bit floats, row after row".
-use Rattle.std.specs.Prelude.{◌≡◌, List, [], ◌∷◌, ◌++◌, Float}
+use Rattle.types.specs.declared.refusal.Refusal.{Refusal}
+use Rattle.std.specs.Prelude.{◌≡◌, List, [], ◌∷◌, ◌++◌, Float, Err, Ok, Option, Result, ℕ}
 use Rattle.std.proofs.lemmas.List.Edits.{sets}
 use Rattle.number.specs.Reply.{Reply, refused, given, and_then}
 use Rattle.matrix.specs.Matrix.{Vector, Matrix}
 use Rattle.filter.specs.Filter.{distance_with}
-use Rattle.detections.specs.declared.Class.{Class}
 use Rattle.detections.specs.declared.Detection.{Detection}
 use Rattle.detections.specs.declared.pairs.PairConfig.{PairConfig}
 use Rattle.detections.specs.declared.pairs.Target.{Target}
@@ -15,18 +15,16 @@ use Rattle.lists.specs.Each.{each}
 use Rattle.pairing.specs.declared.Row.{Row}
 use Rattle.pairing.specs.Rows.{price_reply, row_costs}
 use Rattle.pairing.specs.Laid.{front}
-use Rattle.cost_table.specs.declared.Entry.{Entry}
-use Rattle.cost_table.specs.declared.Entry.TheVariants.{Cost, Refused}
 
 -- ---- a pair
 
 -- the enum in 01's terms
-abbrev pub reply_of_entry : Entry → Reply Float
-reply_of_entry (Cost c) = given c
-reply_of_entry (Refused why) = refused (number_of why)
+abbrev pub reply_of_entry : Result Float Refusal → Reply Float
+reply_of_entry (Ok c) = given c
+reply_of_entry (Err why) = refused (number_of why)
 
 -- the cost of a pair by a factor of S
-unfoldable pub priced_by : PairConfig → Target → Vector → Class → Reply Matrix → Reply Float
+unfoldable pub priced_by : PairConfig → Target → Vector → Option ℕ → Reply Matrix → Reply Float
 priced_by c t z seen factor = and_then (ruled c t.class_label t.class_prior seen (distance_with t.expected z factor)) (λ r. given (cost_of r))
 
 -- ---- the table

@@ -12,32 +12,25 @@ ghost use Rattle.pairing.specs.Rows.{price_reply};
 ghost use Rattle.sightings.specs.Sights.{sights_in, Kin};
 ghost use Rattle.cost_table.specs.Table.{reply_of_entry, priced_by, Tabled};
 
+use detections::Detection;
 use detections::pairs::{PairConfig, Rule, Target, Verdict};
-use detections::{Class, Detection};
 use pairing::Row;
-use types::refusal::{Outcome, Refusal};
+use types::refusal::Refusal;
 use types::{MAX_OBSERVATIONS, MAX_TRACKS};
 
-// An entry of the table of costs, or why the pair's distance is refused.
-#[derive(Clone, Copy)]
-pub enum Entry {
-    Cost(f64),
-    Refused(Refusal),
-}
-
 // A forbidden pair costs +infinity.
-fn entry_of(verdict: Verdict) -> Entry
+fn entry_of(verdict: Verdict) -> Result<f64, Refusal>
     ensures { reply_of_entry result ≡ and_then (reply_of_verdict verdict) (λ v. given (cost_of v)) }
 {
     match verdict {
-        Verdict::Allowed(cost) => Entry::Cost(cost),
-        Verdict::Forbidden(_) => Entry::Cost(f64::from_bits(0x7ff0_0000_0000_0000)),
-        Verdict::Refused(why) => Entry::Refused(types::refusal::of_matrix(why)),
+        Verdict::Allowed(cost) => Ok(cost),
+        Verdict::Forbidden(_) => Ok(f64::from_bits(0x7ff0_0000_0000_0000)),
+        Verdict::Refused(why) => Err(types::refusal::of_matrix(why)),
     }
 }
 
 // Whether a pair needs another factor of S than the one that is held for the covariance at `held`. Where the classes forbid it, it needs none. That it says yes is open: it costs time alone.
-fn is_due(class: Class, seen: Class, held: usize, k: usize) -> bool
+fn is_due(class: Option<u32>, seen: Option<u32>, held: usize, k: usize) -> bool
     ensures { result ≡ false → compatible class seen ≡ true → held ≡ k }
 {
     if detections::pairs::classes_compatible(class, seen) {
@@ -48,7 +41,13 @@ fn is_due(class: Class, seen: Class, held: usize, k: usize) -> bool
 }
 
 // The cost of the pair of a track and a detection that is seen at z with a class, by the factor of S.
-fn price(t: Target, factor: cholesky::Factor3, z: [f64; 3], seen: Class, rule: PairConfig) -> Entry
+fn price(
+    t: Target,
+    factor: Option<cholesky::Lower3>,
+    z: [f64; 3],
+    seen: Option<u32>,
+    rule: PairConfig,
+) -> Result<f64, Refusal>
     ensures { reply_of_entry result ≡ priced_by rule t z seen (reply_of_factor3 factor) }
 {
     let expected = t.expected;
@@ -74,16 +73,15 @@ fn price_row(
     rule: PairConfig,
     costs: &mut [f64; 4096],
     at: usize,
-) -> Outcome
+) -> Result<(), Refusal>
     requires { (m ≤ 64) × (at + m ≤ 4096) × Kin noises.now m kin.now }
     ensures { Laid (price_reply rule t) (sights_in positions.now noises.now labels.now labelled.now m) at (reply_of result) costs.old costs.new }
 {
     let expected = t.expected;
     let class = t.class_label;
     let mut held: usize = 64;
-    let mut factor = cholesky::Factor3::Fails;
-    let mut j: usize = 0;
-    while j < m {
+    let mut factor = None;
+    for j in 0..m {
         let seen = sightings::class_at(labels, labelled, j);
         let k = kin[j];
         if is_due(class, seen, held, k) {
@@ -92,17 +90,10 @@ fn price_row(
             held = k;
         }
         let z = positions[j];
-        match price(t, factor, z, seen, rule) {
-            Entry::Cost(cost) => {
-                costs[at + j] = cost;
-                j += 1;
-            }
-            Entry::Refused(why) => {
-                return Outcome::Refused(why);
-            }
-        }
+        let cost = price(t, factor, z, seen, rule)?;
+        costs[at + j] = cost;
     }
-    Outcome::Done
+    Ok(())
 }
 
 // The costs of the first n rows, a row of m for each. The first refusal decides, in track order and then in detection order.
@@ -117,15 +108,14 @@ fn price_rows(
     m: usize,
     rule: PairConfig,
     costs: &mut [f64; 4096],
-) -> Outcome
+) -> Result<(), Refusal>
     requires { (n ≤ 64) × (m ≤ 64) × Kin noises.now m kin.now }
     ensures { Tabled rule (take n rows) (sights_in positions.now noises.now labels.now labelled.now m) (reply_of result) costs.old costs.new }
 {
-    let mut i: usize = 0;
-    while i < n {
+    for i in 0..n {
         let row = rows[i];
         let t = row.target;
-        match price_row(
+        price_row(
             t,
             positions,
             noises,
@@ -136,16 +126,9 @@ fn price_rows(
             rule,
             costs,
             i * m,
-        ) {
-            Outcome::Done => {
-                i += 1;
-            }
-            Outcome::Refused(why) => {
-                return Outcome::Refused(why);
-            }
-        }
+        )?;
     }
-    Outcome::Done
+    Ok(())
 }
 
 // The same for a batch's first m detections, which are laid out once.
@@ -157,7 +140,7 @@ pub fn price_table(
     m: usize,
     rule: PairConfig,
     costs: &mut [f64; 4096],
-) -> Outcome
+) -> Result<(), Refusal>
     requires { (n ≤ 64) × (m ≤ 64) }
     ensures { Tabled rule (take n rows) (take m seen) (reply_of result) costs.old costs.new }
 {

@@ -24,12 +24,12 @@ pub fn has_factor3(a: [[f64; 3]; 3]) -> bool
     ensures { reply_of_found result ≡ factorable 3 a }
 {
     match cholesky::pivot_root(a[0][0]) {
-        cholesky::Pivot::Root(l00) => {
+        Some(l00) => {
             let l10 = a[1][0] / l00;
             let l20 = a[2][0] / l00;
             goes_on3(a, l00, l10, l20)
         }
-        cholesky::Pivot::Fails => false,
+        None => false,
     }
 }
 
@@ -39,10 +39,8 @@ fn remainder6(a: [[f64; 6]; 6], l: [[f64; 6]; 6], i: usize, j: usize) -> f64
     ensures { result ≡ remainder a l i j }
 {
     let mut x = a[i][j];
-    let mut k: usize = 0;
-    while k < j {
-        x = x - l[k][i] * l[k][j];
-        k += 1;
+    for k in 0..j {
+        x -= l[k][i] * l[k][j];
     }
     x
 }
@@ -81,14 +79,12 @@ pub fn has_factor6(a: [[f64; 6]; 6]) -> bool
     ensures { reply_of_found result ≡ factorable 6 a }
 {
     let mut l = [[0.0; 6]; 6];
-    let mut j: usize = 0;
-    while j < 6 {
+    for j in 0..6 {
         match cholesky::pivot_root(remainder6(a, l, j, j)) {
-            cholesky::Pivot::Root(d) => {
+            Some(d) => {
                 l[j] = column6(a, l, j, d);
-                j += 1;
             }
-            cholesky::Pivot::Fails => {
+            None => {
                 return false;
             }
         }

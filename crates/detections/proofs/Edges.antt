@@ -1,15 +1,15 @@
 -- 01, Checked on the floor: "Distance equal to the gate pairs; the next double doesn't", for every distance and every double past the gate. Assumes nothing.
+use Rattle.std.specs.Prelude.{Option}
+use Rattle.detections.specs.declared.pairs.ClassPrior.{ClassPrior}
 use mathlib.Core.Path.{◌≡◌, refl, sym, ap, ◌∙◌}
 use mathlib.Core.Bool.{Bool, true, false, ◌&&◌, ◌||◌, beq}
 use Prim.Native.Nat.{ℕ, ◌+◌, ◌*◌}
 use native.Mathlib.Omega.{arith}
-use lib.Dec.{ltb, eqb}
+use lib.Dec.{eqb}
 use lib.Ieee.{Float, nan, inf, fin, up, down, below, level, lt, eq, le}
 use lib.Ieee.Scale.{finite}
 use borrow.Author.Tests.{ltb-true, le-ltb, eqb-true, eq-eqb, ne_eqb}
 use Rattle.number.proofs.Zeros.{impossible}
-use Rattle.detections.specs.declared.Class.{Class}
-use Rattle.detections.specs.declared.pairs.ClassPrior.{ClassPrior}
 use Rattle.detections.specs.declared.pairs.PairConfig.{PairConfig}
 use Rattle.detections.specs.declared.pairs.Rule.TheVariants.{Gate}
 use Rattle.detections.specs.Pairs.{forbidden, penalized, priced, gated}
@@ -61,7 +61,7 @@ past_not_le (fin s m e) (fin t n d) p = turned s (m * up e * down d) t (n * up d
 
 -- ---- the gate
 
-module _ (c : PairConfig) (prior : ClassPrior) (seen : Class) (d : Float) where
+module _ (c : PairConfig) (prior : Option ClassPrior) (seen : Option ℕ) (d : Float) where
   pub gate_met : finite d ≡ true → c.gate_squared_mahalanobis ≡ d → gated c prior seen d ≡ priced (penalized c.class_prior_penalty prior seen d)
   gate_met f e = sym (within_gate c prior seen d (ap (le d) e ∙ le_itself d f))
 

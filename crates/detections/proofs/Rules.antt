@@ -1,11 +1,11 @@
 -- What the tests on the way of a verdict say of its definition. Assumes nothing.
-use mathlib.Core.Path.{◌≡◌, refl}
+use Rattle.std.specs.Prelude.{Option, ℕ}
+use Rattle.detections.specs.declared.pairs.ClassPrior.{ClassPrior}
+use mathlib.Core.Path.{◌≡◌}
 use mathlib.Core.Bool.{true, false}
 use lib.Ieee.{Float, le}
 use lib.Ieee.Scale.{finite}
 use Rattle.number.specs.Reply.{Reply, given}
-use Rattle.detections.specs.declared.Class.{Class}
-use Rattle.detections.specs.declared.pairs.ClassPrior.{ClassPrior}
 use Rattle.detections.specs.declared.pairs.PairConfig.{PairConfig}
 use Rattle.detections.specs.declared.pairs.Rule.TheVariants.{Classes, Gate, Cost}
 use Rattle.detections.specs.Pairs.{Ruling, forbidden, allowed, compatible, penalized, priced, gated, measured, ruled}
@@ -19,7 +19,7 @@ module _ (cost : Float) where
   unfolding priced
   cost_infinite f = rw f
 
-module _ (c : PairConfig) (prior : ClassPrior) (seen : Class) (d : Float) where
+module _ (c : PairConfig) (prior : Option ClassPrior) (seen : Option ℕ) (d : Float) where
   pub within_gate : le d c.gate_squared_mahalanobis ≡ true → priced (penalized c.class_prior_penalty prior seen d) ≡ gated c prior seen d
   unfolding gated
   within_gate t = rw t
@@ -28,7 +28,7 @@ module _ (c : PairConfig) (prior : ClassPrior) (seen : Class) (d : Float) where
   unfolding gated
   beyond_gate t = rw t
 
-module _ (c : PairConfig) (class : Class) (prior : ClassPrior) (seen : Class) (distance : Reply Float) where
+module _ (c : PairConfig) (class : Option ℕ) (prior : Option ClassPrior) (seen : Option ℕ) (distance : Reply Float) where
   pub classes_forbid : compatible class seen ≡ false → given (forbidden Classes) ≡ ruled c class prior seen distance
   unfolding ruled
   classes_forbid f = rw f

@@ -1,8 +1,10 @@
 -- What a verdict is for a whole filter, and what it says of the pair. Assumes nothing.
-use mathlib.Core.Path.{◌≡◌, refl, sym, ap, ◌∙◌}
+use Rattle.std.specs.Prelude.{Option}
+use Rattle.detections.specs.declared.pairs.ClassPrior.{ClassPrior}
+use mathlib.Core.Path.{◌≡◌, refl, ap}
 use mathlib.Core.Bool.{Bool, true, false, cond}
 use mathlib.Core.List.Memᴰ
-use mathlib.Core.List.{List, []}
+use mathlib.Core.List.{[]}
 use Prim.Native.Nat.{ℕ}
 use native.Mathlib.Omega.{arith}
 use lib.Ieee.{Float, le}
@@ -11,9 +13,7 @@ use Rattle.number.specs.Reply.{Reply, refused, given, and_then}
 use Rattle.filter.specs.declared.KalmanFilter.{KalmanFilter}
 use Rattle.filter.specs.Filter.{distance_from, squared_mahalanobis}
 use Rattle.filter.proofs.Split.{checked_distance}
-use Rattle.detections.specs.declared.Class.{Class}
 use Rattle.detections.specs.declared.Detection.{Detection}
-use Rattle.detections.specs.declared.pairs.ClassPrior.{ClassPrior}
 use Rattle.detections.specs.declared.pairs.Target.{Target}
 use Rattle.detections.specs.declared.pairs.PairConfig.{PairConfig}
 use Rattle.detections.specs.declared.pairs.Rule.{Rule}
@@ -33,7 +33,7 @@ module _ (x : Float) where
       go true f e = cc
       go false f e = absurd (let z : ◌≡◌ {A = ℕ} 0 1 = cc in omega arith)
 
-  gated_finite : (c : PairConfig) (prior : ClassPrior) (seen : Class) (d : Float) → gated c prior seen d ≡ allowed x → finite x ≡ true
+  gated_finite : (c : PairConfig) (prior : Option ClassPrior) (seen : Option ℕ) (d : Float) → gated c prior seen d ≡ allowed x → finite x ≡ true
   unfolding gated
   gated_finite c prior seen d = go (le d c.gate_squared_mahalanobis)
     where
@@ -41,7 +41,7 @@ module _ (x : Float) where
       go true e = priced_finite (penalized c.class_prior_penalty prior seen d) e
       go false e = absurd (let z : ◌≡◌ {A = ℕ} 0 1 = cc in omega arith)
 
-  ruled_finite : (c : PairConfig) (class : Class) (prior : ClassPrior) (seen : Class) (distance : Reply Float) → ruled c class prior seen distance ≡ given (allowed x) → finite x ≡ true
+  ruled_finite : (c : PairConfig) (class : Option ℕ) (prior : Option ClassPrior) (seen : Option ℕ) (distance : Reply Float) → ruled c class prior seen distance ≡ given (allowed x) → finite x ≡ true
   unfolding ruled
   ruled_finite c class prior seen distance = go (compatible class seen) distance
     where
@@ -52,7 +52,7 @@ module _ (x : Float) where
 
 module _ (c : PairConfig) where
   -- for a detection that has passed its checks, the verdict is that of the whole squared distance
-  pub verdict_whole : (f : KalmanFilter) (class : Class) (prior : ClassPrior) (d : Detection) → detection_reply d ≡ given tt
+  pub verdict_whole : (f : KalmanFilter) (class : Option ℕ) (prior : Option ClassPrior) (d : Detection) → detection_reply d ≡ given tt
       → verdict_of c (target_of f class prior) d ≡ ruled c class prior d.class_label (squared_mahalanobis d.position d.covariance f)
   unfolding verdict_of
   verdict_whole f class prior d p =

@@ -1,17 +1,15 @@
 -- What of a birth is decided by a detection alone.
-use Rattle.std.specs.Prelude.{Bool, false, Float}
+use Rattle.std.specs.Prelude.{Bool, false, Float, None, Option, Some}
 use Rattle.std.specs.Float.{nan}
 use Rattle.std.specs.Float.Ieee.{lt}
 use Rattle.number.specs.Reply.{Reply, refused, given}
 use Rattle.square_root.specs.Root.{root_reply}
 use Rattle.matrix.specs.Matrix.{Vector, dot, minus_vector}
-use Rattle.detections.specs.declared.Score.{Score}
-use Rattle.detections.specs.declared.Score.TheVariants.{Unscored, Scored}
 
 -- 01, Detection: "A score NaN isn't below a threshold"; nor is one that is absent
-abbrev pub score_below : Score → Float → Bool
-score_below Unscored threshold = false
-score_below (Scored x) threshold = lt x threshold
+abbrev pub score_below : Option Float → Float → Bool
+score_below None threshold = false
+score_below (Some x) threshold = lt x threshold
 
 -- 01, Detection: "Distances at birth are the root of the squared offsets, summed x, y, z."
 abbrev pub squared_offset : Vector → Vector → Float

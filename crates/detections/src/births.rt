@@ -2,15 +2,13 @@
 ghost use Rattle.std.specs.Prelude.{◌≡◌};
 ghost use Rattle.detections.specs.Births.{score_below, distance_of, nearer};
 
-use super::Score;
-
 // Whether a score is below the threshold. One that is absent, or a NaN, is not.
-pub fn is_score_below(score: Score, threshold: f64) -> bool
+pub fn is_score_below(score: Option<f64>, threshold: f64) -> bool
     ensures { result ≡ score_below score threshold }
 {
     match score {
-        Score::Unscored => false,
-        Score::Scored(x) => x < threshold,
+        None => false,
+        Some(x) => x < threshold,
     }
 }
 
@@ -18,10 +16,10 @@ pub fn is_score_below(score: Score, threshold: f64) -> bool
 pub fn distance(a: [f64; 3], b: [f64; 3]) -> f64
     ensures { result ≡ distance_of a b }
 {
-    let u = sums::sub3(a, b);
-    match square_root::root(product::dot3(u, u)) {
-        square_root::SquareRoot::Value(x) => x,
-        square_root::SquareRoot::Refused => 0.0 / 0.0,
+    let u = sums::minus(a, b);
+    match square_root::root(product::dot(u, u)) {
+        Some(x) => x,
+        None => 0.0 / 0.0,
     }
 }
 

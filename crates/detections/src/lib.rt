@@ -8,25 +8,11 @@ ghost use Rattle.detections.specs.Detection.{finite_velocity, detection_reply};
 pub mod births;
 pub mod pairs;
 
-// A velocity along x and y, where the sensor measures one.
+// A velocity along x and y.
 #[derive(Clone, Copy)]
-pub enum Velocity {
-    Unmeasured,
-    Measured(f64, f64),
-}
-
-// What kind of object it is, where that is known.
-#[derive(Clone, Copy)]
-pub enum Class {
-    Unknown,
-    Label(u32),
-}
-
-// How sure the detector is, where it says so.
-#[derive(Clone, Copy)]
-pub enum Score {
-    Unscored,
-    Scored(f64),
+pub struct PlanarVelocity {
+    pub x: f64,
+    pub y: f64,
 }
 
 // A measured position and its covariance, row after row, with what else came with it.
@@ -34,31 +20,31 @@ pub enum Score {
 pub struct Detection {
     pub position: [f64; 3],
     pub covariance: [f64; 9],
-    pub velocity: Velocity,
-    pub class_label: Class,
-    pub score: Score,
+    pub velocity: Option<PlanarVelocity>,
+    pub class_label: Option<u32>,
+    pub score: Option<f64>,
 }
 
 // Whether a velocity has finite components, or none.
-fn is_finite_velocity(v: Velocity) -> bool
+fn is_finite_velocity(v: Option<PlanarVelocity>) -> bool
     ensures { result ≡ finite_velocity v }
 {
     match v {
-        Velocity::Unmeasured => true,
-        Velocity::Measured(x, y) => number::float::is_finite(x) & number::float::is_finite(y),
+        None => true,
+        Some(v) => number::float::is_finite(v.x) & number::float::is_finite(v.y),
     }
 }
 
 // Whether a batch may hold the detection, or why not.
-pub fn validate_detection(d: Detection) -> math::linalg::Validity
+pub fn validate_detection(d: Detection) -> Result<(), math::linalg::Refusal>
     ensures { reply_of_validity result ≡ detection_reply d }
 {
     let position = d.position;
     let covariance = d.covariance;
     let velocity = d.velocity;
-    if finite::is_finite3(position) & is_finite_velocity(velocity) {
-        math::linalg::validate_covariance3(flat::rows_3x3(covariance))
+    if finite::is_finite_vector(position) & is_finite_velocity(velocity) {
+        math::linalg::validate_covariance3(flat::rows(covariance))
     } else {
-        math::linalg::Validity::Refused(math::linalg::Refusal::NonFiniteValue)
+        Err(math::linalg::Refusal::NonFiniteValue)
     }
 }

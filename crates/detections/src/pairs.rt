@@ -4,21 +4,21 @@ ghost use Rattle.number.specs.Reply.{given};
 ghost use Rattle.math.specs.Linalg.{reply_of_distance};
 ghost use Rattle.detections.specs.Pairs.{compatible, penalized, priced, gated, measured, verdict_of, reply_of_verdict};
 
-use super::{Class, Detection};
+use super::Detection;
 
 // What is believed of a track's class, from elsewhere: a label, and the confidence in it.
 #[derive(Clone, Copy)]
-pub enum ClassPrior {
-    NoPrior,
-    Prior(u32, f64),
+pub struct ClassPrior {
+    pub label: u32,
+    pub confidence: f64,
 }
 
 // What of a track its pairs depend on.
 #[derive(Clone, Copy)]
 pub struct Target {
     pub expected: filter::Expected,
-    pub class_label: Class,
-    pub class_prior: ClassPrior,
+    pub class_label: Option<u32>,
+    pub class_prior: Option<ClassPrior>,
 }
 
 // What of the tracker's settings a pair depends on.
@@ -45,31 +45,31 @@ pub enum Verdict {
 }
 
 // Whether two classes agree, or one is not known.
-pub fn classes_compatible(a: Class, b: Class) -> bool
+pub fn classes_compatible(a: Option<u32>, b: Option<u32>) -> bool
     ensures { result ≡ compatible a b }
 {
     match a {
-        Class::Unknown => true,
-        Class::Label(x) => match b {
-            Class::Unknown => true,
-            Class::Label(y) => x == y,
+        None => true,
+        Some(x) => match b {
+            None => true,
+            Some(y) => x == y,
         },
     }
 }
 
 // The cost of a pair, with the penalty where the class that is seen is not the one that is believed.
-fn penalize(cost: f64, prior: ClassPrior, seen: Class, penalty: f64) -> f64
+fn penalize(cost: f64, prior: Option<ClassPrior>, seen: Option<u32>, penalty: f64) -> f64
     ensures { result ≡ penalized penalty prior seen cost }
 {
     match prior {
-        ClassPrior::NoPrior => cost,
-        ClassPrior::Prior(label, confidence) => match seen {
-            Class::Unknown => cost,
-            Class::Label(x) => {
-                if label == x {
+        None => cost,
+        Some(believed) => match seen {
+            None => cost,
+            Some(x) => {
+                if believed.label == x {
                     cost
                 } else {
-                    cost + penalty * confidence
+                    cost + penalty * believed.confidence
                 }
             }
         },
@@ -88,7 +88,7 @@ fn price(cost: f64) -> Verdict
 }
 
 // A pair of compatible classes, at this squared distance.
-fn gate(squared: f64, prior: ClassPrior, seen: Class, config: PairConfig) -> Verdict
+fn gate(squared: f64, prior: Option<ClassPrior>, seen: Option<u32>, config: PairConfig) -> Verdict
     ensures { reply_of_verdict result ≡ given (gated config prior seen squared) }
 {
     if squared <= config.gate_squared_mahalanobis {
@@ -100,16 +100,16 @@ fn gate(squared: f64, prior: ClassPrior, seen: Class, config: PairConfig) -> Ver
 
 // What becomes of a pair of compatible classes, once its distance is taken.
 pub fn verdict_at(
-    distance: math::linalg::Distance,
-    prior: ClassPrior,
-    seen: Class,
+    distance: Result<f64, math::linalg::Refusal>,
+    prior: Option<ClassPrior>,
+    seen: Option<u32>,
     config: PairConfig,
 ) -> Verdict
     ensures { reply_of_verdict result ≡ measured config prior seen (reply_of_distance distance) }
 {
     match distance {
-        math::linalg::Distance::Squared(x) => gate(x, prior, seen, config),
-        math::linalg::Distance::Refused(why) => Verdict::Refused(why),
+        Ok(x) => gate(x, prior, seen, config),
+        Err(why) => Verdict::Refused(why),
     }
 }
 

@@ -7,7 +7,7 @@ ghost use Rattle.factors.specs.Factors.{Answers};
 // The factor of the one, and whether the other has one.
 #[derive(Clone, Copy)]
 pub struct FactorAndTest {
-    pub factor: cholesky::Factor3,
+    pub factor: Option<cholesky::Lower3>,
     pub definite: bool,
 }
 
@@ -31,7 +31,7 @@ pub fn factor_and_test(s: [[f64; 3]; 3], r: [[f64; 3]; 3]) -> FactorAndTest
     let l22 = cholesky::root_or_zero(t);
     let definite = (r[0][0] > 0.0) & (q > 0.0) & (r[2][2] - m20 * m20 - m21 * m21 > 0.0);
     if (s[0][0] > 0.0) & (p > 0.0) & (t > 0.0) {
-        let factor = cholesky::Factor3::Lower(cholesky::Lower3 {
+        let factor = Some(cholesky::Lower3 {
             l00,
             l10,
             l20,
@@ -42,7 +42,7 @@ pub fn factor_and_test(s: [[f64; 3]; 3], r: [[f64; 3]; 3]) -> FactorAndTest
         FactorAndTest { factor, definite }
     } else {
         FactorAndTest {
-            factor: cholesky::Factor3::Fails,
+            factor: None,
             definite,
         }
     }

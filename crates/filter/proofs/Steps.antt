@@ -1,5 +1,6 @@
 -- What the tests on the way of a call say of its definition, whatever the sizes. Assumes nothing.
-use mathlib.Core.Path.{◌≡◌, refl, sym, ap, ◌∙◌, subst}
+use Rattle.std.specs.Prelude.{Ok}
+use mathlib.Core.Path.{◌≡◌, refl, sym, ap, subst}
 use mathlib.Core.Bool.{true, false}
 use Prim.Native.Nat.{ℕ}
 use Rattle.number.specs.Reply.{Reply, refused, given, and_then, left_in}
@@ -8,7 +9,6 @@ use Rattle.finite.specs.Finite.{finite_vector, finite_matrix}
 use Rattle.cholesky.specs.Cholesky.{cholesky}
 use Rattle.math.specs.Linalg.{validated}
 use Rattle.filter.specs.declared.KalmanFilter.{KalmanFilter}
-use Rattle.filter.specs.declared.Outcome.TheVariants.{Done}
 use Rattle.filter.specs.declared.Step.{Step}
 use Rattle.filter.specs.Kalman.{Estimate, finished, moved, predict_reply, corrected, gained, measured_with, measured_by, checked}
 use Rattle.filter.specs.Filter.{filter_of, stored, Answer}
@@ -18,7 +18,7 @@ use Rattle.filter.specs.Filter.{filter_of, stored, Answer}
 pub answers : {before : KalmanFilter} {s : Step} {r reply : Reply KalmanFilter} → Answer before s r → r ≡ reply → Answer before s reply
 answers {before} {s} a e = subst (λ reply. Answer before s reply) e a
 
-pub done : {before after : KalmanFilter} {reply : Reply KalmanFilter} → reply ≡ given after → Answer before (record { outcome = Done; filter = after }) reply
+pub done : {before after : KalmanFilter} {reply : Reply KalmanFilter} → reply ≡ given after → Answer before (record { outcome = Ok tt; filter = after }) reply
 done {before} e = record { is = sym e; left = ap (λ r. left_in r before) (sym e) }
 
 -- ---- an estimate

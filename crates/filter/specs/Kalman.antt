@@ -1,7 +1,7 @@
 -- Kalman's equations with the Joseph form, for a state of n items and a measurement of k, in 01's order of operations.
 -- 01, Filter: "Update takes K from (symmetrized S) X = (P Hᵀ)ᵀ and the covariance (I−KH)P(I−KH)ᵀ + K R Kᵀ, symmetrized."
 use Rattle.std.specs.Prelude.{ℕ, Float}
-use Rattle.number.specs.Reply.{Reply, refused, given, refuse_unless, and_then}
+use Rattle.number.specs.Reply.{Reply, given, refuse_unless, and_then}
 use Rattle.matrix.specs.Matrix.{Vector, Matrix, times_vector, product, transposed, congruence, plus_vector, minus_vector, plus, minus, symmetrized, identity}
 use Rattle.finite.specs.Finite.{finite_vector, finite_matrix}
 use Rattle.cholesky.specs.Cholesky.{cholesky}

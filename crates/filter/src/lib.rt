@@ -20,17 +20,10 @@ pub struct KalmanFilter {
     pub covariance: [f64; 36],
 }
 
-// Whether a call was carried out.
-#[derive(Clone, Copy)]
-pub enum Outcome {
-    Done,
-    Refused(math::linalg::Refusal),
-}
-
 // What a call answers, and the filter after it.
 #[derive(Clone, Copy)]
 pub struct Step {
-    pub outcome: Outcome,
+    pub outcome: Result<(), math::linalg::Refusal>,
     pub filter: KalmanFilter,
 }
 
@@ -46,7 +39,7 @@ fn refuse(f: KalmanFilter, why: math::linalg::Refusal) -> Step
     ensures { Answer f result (refused (number_of why)) }
 {
     Step {
-        outcome: Outcome::Refused(why),
+        outcome: Err(why),
         filter: f,
     }
 }
@@ -55,15 +48,15 @@ fn refuse(f: KalmanFilter, why: math::linalg::Refusal) -> Step
 fn finish(f: KalmanFilter, x: [f64; 6], p: [[f64; 6]; 6]) -> Step
     ensures { Answer f result (stored (finished 6 (estimate x p))) }
 {
-    if finite::is_finite6(x) {
-        if finite6::is_finite_6x6(p) {
-            let covariance = flat::flat_6x6(p);
+    if finite::is_finite_vector(x) {
+        if finite::is_finite_matrix(p) {
+            let covariance = flat::flat(p);
             let filter = KalmanFilter {
                 state: x,
                 covariance,
             };
             Step {
-                outcome: Outcome::Done,
+                outcome: Ok(()),
                 filter,
             }
         } else {
@@ -80,9 +73,9 @@ fn move_by(f: KalmanFilter, dt: f64, q: [[f64; 6]; 6]) -> Step
 {
     let x = f.state;
     let flat = f.covariance;
-    let state = product::mul_6x6_vector(models::cv_f6(dt), x);
-    let spread = transition::moved_spread(dt, flat::rows_6x6(flat));
-    let covariance = symmetrized::symmetrized_sum6(spread, q);
+    let state = product::times_vector(models::cv_f6(dt), x);
+    let spread = transition::moved_spread(dt, flat::rows(flat));
+    let covariance = symmetrized::symmetrized_sum(spread, q);
     finish(f, state, covariance)
 }
 
@@ -91,7 +84,7 @@ pub fn predict(f: KalmanFilter, dt: f64, q: f64) -> Step
     ensures { Answer f result (predicted dt q f) }
 {
     let noise = models::cv_q6(dt, q);
-    if finite6::is_finite_6x6(noise) {
+    if finite::is_finite_matrix(noise) {
         move_by(f, dt, noise)
     } else {
         refuse(f, math::linalg::Refusal::NonFiniteValue)
@@ -106,13 +99,13 @@ pub fn create(x: [f64; 6], p: [f64; 36]) -> Step
         state: x,
         covariance: p,
     };
-    if finite::is_finite6(x) {
-        match math::linalg::validate_covariance6(flat::rows_6x6(p)) {
-            math::linalg::Validity::Valid => Step {
-                outcome: Outcome::Done,
+    if finite::is_finite_vector(x) {
+        match math::linalg::validate_covariance6(flat::rows(p)) {
+            Ok(()) => Step {
+                outcome: Ok(()),
                 filter,
             },
-            math::linalg::Validity::Refused(why) => refuse(filter, why),
+            Err(why) => refuse(filter, why),
         }
     } else {
         refuse(filter, math::linalg::Refusal::NonFiniteValue)
@@ -130,10 +123,10 @@ fn correct3(
     ensures { Answer f result (stored (finished 6 (corrected 3 6 u (selection 3 6 0) noise (estimate f.state p) k))) }
 {
     let x = f.state;
-    let state = sums::add6(x, product::mul_6x3_vector(k, u));
+    let state = sums::plus(x, product::times_vector(k, u));
     let a = rest::position_rest(k);
-    let left = congruence::congruence_6x6(a, p);
-    let covariance = symmetrized::symmetrized_sum6(left, gain_congruence::congruence_6x3(k, noise));
+    let left = congruence::congruence(a, p);
+    let covariance = symmetrized::symmetrized_sum(left, congruence::congruence(k, noise));
     finish(f, state, covariance)
 }
 
@@ -147,7 +140,7 @@ fn correct_finite3(
 ) -> Step
     ensures { Answer f result (stored (gained 3 6 u (selection 3 6 0) noise (estimate f.state p) k)) }
 {
-    if finite6::is_finite_6x3(k) {
+    if finite::is_finite_matrix(k) {
         correct3(f, u, noise, p, k)
     } else {
         refuse(f, math::linalg::Refusal::NonFiniteResult)
@@ -159,7 +152,7 @@ fn measure_with3(f: KalmanFilter, u: [f64; 3], noise: [[f64; 3]; 3], l: cholesky
     ensures { Answer f result (stored (measured_with 3 6 u (selection 3 6 0) noise (estimate_of f) (columns_of3 l))) }
 {
     let flat = f.covariance;
-    let p = flat::rows_6x6(flat);
+    let p = flat::rows(flat);
     let k = solving::gain3(l, observation::position_cross(p));
     correct_finite3(f, u, noise, p, k)
 }
@@ -168,14 +161,14 @@ fn measure_with3(f: KalmanFilter, u: [f64; 3], noise: [[f64; 3]; 3], l: cholesky
 fn measure_by3(
     f: KalmanFilter,
     u: [f64; 3],
-    factor: cholesky::Factor3,
+    factor: Option<cholesky::Lower3>,
     noise: [[f64; 3]; 3],
 ) -> Step
     ensures { Answer f result (stored (and_then (reply_of_factor3 factor) (λ l. measured_with 3 6 u (selection 3 6 0) noise (estimate_of f) l))) }
 {
     match factor {
-        cholesky::Factor3::Lower(l) => measure_with3(f, u, noise, l),
-        cholesky::Factor3::Fails => refuse(f, math::linalg::Refusal::NotPositiveDefinite),
+        Some(l) => measure_with3(f, u, noise, l),
+        None => refuse(f, math::linalg::Refusal::NotPositiveDefinite),
     }
 }
 
@@ -197,10 +190,10 @@ fn correct2(
     ensures { Answer f result (stored (finished 6 (corrected 2 6 u (selection 2 6 3) noise (estimate f.state p) k))) }
 {
     let x = f.state;
-    let state = sums::add6(x, product::mul_6x2_vector(k, u));
+    let state = sums::plus(x, product::times_vector(k, u));
     let a = rest::velocity_rest(k);
-    let left = congruence::congruence_6x6(a, p);
-    let covariance = symmetrized::symmetrized_sum6(left, gain_congruence::congruence_6x2(k, noise));
+    let left = congruence::congruence(a, p);
+    let covariance = symmetrized::symmetrized_sum(left, congruence::congruence(k, noise));
     finish(f, state, covariance)
 }
 
@@ -214,7 +207,7 @@ fn correct_finite2(
 ) -> Step
     ensures { Answer f result (stored (gained 2 6 u (selection 2 6 3) noise (estimate f.state p) k)) }
 {
-    if finite6::is_finite_6x2(k) {
+    if finite::is_finite_matrix(k) {
         correct2(f, u, noise, p, k)
     } else {
         refuse(f, math::linalg::Refusal::NonFiniteResult)
@@ -226,7 +219,7 @@ fn measure_with2(f: KalmanFilter, u: [f64; 2], noise: [[f64; 2]; 2], l: cholesky
     ensures { Answer f result (stored (measured_with 2 6 u (selection 2 6 3) noise (estimate_of f) (columns_of2 l))) }
 {
     let flat = f.covariance;
-    let p = flat::rows_6x6(flat);
+    let p = flat::rows(flat);
     let k = solving::gain2(l, observation::velocity_cross(p));
     correct_finite2(f, u, noise, p, k)
 }
@@ -235,14 +228,14 @@ fn measure_with2(f: KalmanFilter, u: [f64; 2], noise: [[f64; 2]; 2], l: cholesky
 fn measure_by2(
     f: KalmanFilter,
     u: [f64; 2],
-    factor: cholesky::Factor2,
+    factor: Option<cholesky::Lower2>,
     noise: [[f64; 2]; 2],
 ) -> Step
     ensures { Answer f result (stored (and_then (reply_of_factor2 factor) (λ l. measured_with 2 6 u (selection 2 6 3) noise (estimate_of f) l))) }
 {
     match factor {
-        cholesky::Factor2::Lower(l) => measure_with2(f, u, noise, l),
-        cholesky::Factor2::Fails => refuse(f, math::linalg::Refusal::NotPositiveDefinite),
+        Some(l) => measure_with2(f, u, noise, l),
+        None => refuse(f, math::linalg::Refusal::NotPositiveDefinite),
     }
 }
 
@@ -258,7 +251,7 @@ fn position_spread(f: KalmanFilter) -> [[f64; 3]; 3]
     ensures { result ≡ congruence 3 6 (selection 3 6 0) (rows_of 6 6 f.covariance) }
 {
     let flat = f.covariance;
-    observation::position_spread(flat::rows_6x6(flat))
+    observation::position_spread(flat::rows(flat))
 }
 
 // Where f expects a position: once for a filter, whatever is measured.
@@ -267,7 +260,7 @@ pub fn expected_position(f: KalmanFilter) -> Expected
 {
     let x = f.state;
     let position = observation::position(x);
-    let covariance = flat::flat_3x3(position_spread(f));
+    let covariance = flat::flat(position_spread(f));
     Expected {
         position,
         covariance,
@@ -275,26 +268,31 @@ pub fn expected_position(f: KalmanFilter) -> Expected
 }
 
 // The factor of the covariance of an innovation that is measured with the covariance `noise`: once for all measurements with the same one.
-pub fn factor_from(m: Expected, noise: [f64; 9]) -> cholesky::Factor3
+pub fn factor_from(m: Expected, noise: [f64; 9]) -> Option<cholesky::Lower3>
     ensures { reply_of_factor3 result ≡ factor_from m noise }
 {
     let covariance = m.covariance;
-    cholesky::cholesky3(symmetrized::symmetrized_sum3(
-        flat::rows_3x3(covariance),
-        flat::rows_3x3(noise),
-    ))
+    cholesky::cholesky3(symmetrized::symmetrized_sum(flat::rows(covariance), flat::rows(noise)))
 }
 
 // The squared distance of a measured position from where it is expected, by that factor.
-pub fn distance_by(m: Expected, z: [f64; 3], factor: cholesky::Factor3) -> math::linalg::Distance
+pub fn distance_by(
+    m: Expected,
+    z: [f64; 3],
+    factor: Option<cholesky::Lower3>,
+) -> Result<f64, math::linalg::Refusal>
     ensures { reply_of_distance result ≡ distance_with m z (reply_of_factor3 factor) }
 {
     let position = m.position;
-    math::linalg::distance_by_factor3(sums::sub3(z, position), factor)
+    math::linalg::distance_by_factor3(sums::minus(z, position), factor)
 }
 
 // The two together, for a measurement that is checked already.
-pub fn distance_from(m: Expected, z: [f64; 3], noise: [f64; 9]) -> math::linalg::Distance
+pub fn distance_from(
+    m: Expected,
+    z: [f64; 3],
+    noise: [f64; 9],
+) -> Result<f64, math::linalg::Refusal>
     ensures { reply_of_distance result ≡ distance_from m z noise }
 {
     distance_by(m, z, factor_from(m, noise))
@@ -305,32 +303,36 @@ fn innovation3(f: KalmanFilter, z: [f64; 3]) -> [f64; 3]
     ensures { result ≡ innovation 3 6 z (selection 3 6 0) f.state }
 {
     let x = f.state;
-    sums::sub3(z, observation::position(x))
+    sums::minus(z, observation::position(x))
 }
 
 // The covariance of an innovation that is measured with the covariance `noise`.
 fn spread3(f: KalmanFilter, noise: [[f64; 3]; 3]) -> [[f64; 3]; 3]
     ensures { result ≡ spread 3 6 (selection 3 6 0) noise (rows_of 6 6 f.covariance) }
 {
-    symmetrized::symmetrized_sum3(position_spread(f), noise)
+    symmetrized::symmetrized_sum(position_spread(f), noise)
 }
 
 // The squared distance of a measured position from f. The innovation's factor and the test of `noise` go side by side, before the checks that have no roots.
-pub fn squared_mahalanobis(f: KalmanFilter, z: [f64; 3], noise: [f64; 9]) -> math::linalg::Distance
+pub fn squared_mahalanobis(
+    f: KalmanFilter,
+    z: [f64; 3],
+    noise: [f64; 9],
+) -> Result<f64, math::linalg::Refusal>
     ensures { reply_of_distance result ≡ squared_mahalanobis z noise f }
 {
-    let rows = flat::rows_3x3(noise);
+    let rows = flat::rows(noise);
     let u = innovation3(f, z);
     let both = factors::factor_and_test(spread3(f, rows), rows);
     let factor = both.factor;
     let definite = both.definite;
-    if finite::is_finite3(z) {
+    if finite::is_finite_vector(z) {
         match math::linalg::validity3(rows, definite) {
-            math::linalg::Validity::Valid => math::linalg::distance_by_factor3(u, factor),
-            math::linalg::Validity::Refused(why) => math::linalg::Distance::Refused(why),
+            Ok(()) => math::linalg::distance_by_factor3(u, factor),
+            Err(why) => Err(why),
         }
     } else {
-        math::linalg::Distance::Refused(math::linalg::Refusal::NonFiniteValue)
+        Err(math::linalg::Refusal::NonFiniteValue)
     }
 }
 
@@ -340,9 +342,9 @@ pub fn update_from(m: Expected, f: KalmanFilter, z: [f64; 3], noise: [f64; 9]) -
 {
     let position = m.position;
     let covariance = m.covariance;
-    let u = sums::sub3(z, position);
-    let rows = flat::rows_3x3(noise);
-    let s = symmetrized::symmetrized_sum3(flat::rows_3x3(covariance), rows);
+    let u = sums::minus(z, position);
+    let rows = flat::rows(noise);
+    let s = symmetrized::symmetrized_sum(flat::rows(covariance), rows);
     measure3(f, u, s, rows)
 }
 
@@ -350,15 +352,15 @@ pub fn update_from(m: Expected, f: KalmanFilter, z: [f64; 3], noise: [f64; 9]) -
 pub fn update_position(f: KalmanFilter, z: [f64; 3], noise: [f64; 9]) -> Step
     ensures { Answer f result (updated_by_position z noise f) }
 {
-    let rows = flat::rows_3x3(noise);
+    let rows = flat::rows(noise);
     let u = innovation3(f, z);
     let both = factors::factor_and_test(spread3(f, rows), rows);
     let factor = both.factor;
     let definite = both.definite;
-    if finite::is_finite3(z) {
+    if finite::is_finite_vector(z) {
         match math::linalg::validity3(rows, definite) {
-            math::linalg::Validity::Valid => measure_by3(f, u, factor, rows),
-            math::linalg::Validity::Refused(why) => refuse(f, why),
+            Ok(()) => measure_by3(f, u, factor, rows),
+            Err(why) => refuse(f, why),
         }
     } else {
         refuse(f, math::linalg::Refusal::NonFiniteValue)
@@ -370,7 +372,7 @@ fn innovation2(f: KalmanFilter, z: [f64; 2]) -> [f64; 2]
     ensures { result ≡ innovation 2 6 z (selection 2 6 3) f.state }
 {
     let x = f.state;
-    sums::sub2(z, observation::velocity(x))
+    sums::minus(z, observation::velocity(x))
 }
 
 // The covariance of an innovation that is measured with the covariance `noise`.
@@ -378,8 +380,8 @@ fn spread2(f: KalmanFilter, noise: [[f64; 2]; 2]) -> [[f64; 2]; 2]
     ensures { result ≡ spread 2 6 (selection 2 6 3) noise (rows_of 6 6 f.covariance) }
 {
     let flat = f.covariance;
-    let p = flat::rows_6x6(flat);
-    symmetrized::symmetrized_sum2(observation::velocity_spread(p), noise)
+    let p = flat::rows(flat);
+    symmetrized::symmetrized_sum(observation::velocity_spread(p), noise)
 }
 
 // The filter after a measured velocity that is finite, with a deviation whose square may be a variance.
@@ -399,10 +401,10 @@ pub fn update_velocity(f: KalmanFilter, v: [f64; 2], std: f64) -> Step
     let noise = models::velocity_r2(std);
     let u = innovation2(f, v);
     let factor = cholesky::cholesky2(spread2(f, noise));
-    if finite::is_finite2(v) {
+    if finite::is_finite_vector(v) {
         match isotropic::validate_isotropic2(std * std) {
-            math::linalg::Validity::Valid => measure_by2(f, u, factor, noise),
-            math::linalg::Validity::Refused(why) => refuse(f, why),
+            Ok(()) => measure_by2(f, u, factor, noise),
+            Err(why) => refuse(f, why),
         }
     } else {
         refuse(f, math::linalg::Refusal::NonFiniteValue)

@@ -1,7 +1,7 @@
 -- What the form readers use of the shape.
+use Rattle.std.specs.Prelude.{None, Option, Some}
 use mathlib.Core.Path.{◌≡◌, refl, ap, sym, ◌∙◌}
-use mathlib.Core.Bool.{Bool, true, false, cond, not}
-use mathlib.Core.Option.{Option, none, some}
+use mathlib.Core.Bool.{Bool, true, false, cond}
 use mathlib.Core.List.{List, [], ◌∷◌}
 use Prim.Native.Nat.{ℕ, zero, suc, ◌+◌, ◌-◌, ◌<◌, ◌≤◌}
 use native.Mathlib.Numerals.{add-one}
@@ -12,10 +12,6 @@ use lib.ListN.{length, drop, get_or, length-drop, drop_of_length-le}
 use lib.Seq.{drop-cons, drop-drop}
 use Rattle.number.specs.Reply.{refused, given}
 use Rattle.forms.specs.Shape.{word_byte, past_word, word_end, behind, forms_of, word, inside, bracketed, form_of, list_of, place_reply}
-
--- ---- a word's bytes
-pub word_rest : (b : ℕ) → (b ≡ 32 → ⊥) → (b ≡ 10 → ⊥) → (b ≡ 40 → ⊥) → not (eqb b 41) ≡ word_byte b
-word_rest b f g h = simp (ne_eqb b 32 f, ne_eqb b 10 g, ne_eqb b 40 h)
 
 -- ---- the second list is what is left of the first behind one element or more
 pub data Tail : List ℕ → List ℕ → Type 0 where
@@ -89,38 +85,38 @@ passed s from r h e =
     let n : length (drop from s) ≡ length s - from = length-drop from s in
     record { past = omega arith; within = omega arith; left = ap (λ (k : ℕ). drop k s) e ∙ sym (drop-drop _ from s) ∙ word_left (drop from s) }
 
-pub never : {X : Type 0} {x : X} {Y : Type 0} → none ≡ some x → Y
+pub never : {X : Type 0} {x : X} {Y : Type 0} → None ≡ Some x → Y
 never {X} {x} h = absurd (let z : ◌≡◌ {A = ℕ} 0 1 = cc in omega arith)
 
 abbrev Shrinks : (List ℕ → Option (List ℕ)) → Type 0
-Shrinks p = (l r : List ℕ) → p l ≡ some r → Tail l r
+Shrinks p = (l r : List ℕ) → p l ≡ Some r → Tail l r
 
 word_shrinks : Shrinks word
 unfolding word
 word_shrinks [] r h = never h
 word_shrinks (b ∷ l) r h = go (word_byte b) h
   where
-    go : (t : Bool) → cond t (some (past_word l)) none ≡ some r → Tail (b ∷ l) r
+    go : (t : Bool) → cond t (Some (past_word l)) None ≡ Some r → Tail (b ∷ l) r
     go true e = let u : past_word l ≡ r = cc in rw u at (past_tail b l)
     go false e = never e
 
 -- what follows a form leaves a tail where the form and the further forms do, and is the same where the further forms are
-behind_shrinks : (go : List ℕ → Option (List ℕ)) (l r : List ℕ) (o : Option (List ℕ)) → Shrinks go → ((m : List ℕ) → o ≡ some m → Tail l m) → behind go o ≡ some r → Tail l r
+behind_shrinks : (go : List ℕ → Option (List ℕ)) (l r : List ℕ) (o : Option (List ℕ)) → Shrinks go → ((m : List ℕ) → o ≡ Some m → Tail l m) → behind go o ≡ Some r → Tail l r
 unfolding behind
-behind_shrinks go l r none s t h = never h
-behind_shrinks go l r (some []) s t h = never h
-behind_shrinks go l r (some (c ∷ m)) s t h = closed (eqb c 41) (eqb c 32) h
+behind_shrinks go l r None s t h = never h
+behind_shrinks go l r (Some []) s t h = never h
+behind_shrinks go l r (Some (c ∷ m)) s t h = closed (eqb c 41) (eqb c 32) h
   where
-    closed : (x y : Bool) → cond x (some m) (cond y (go m) none) ≡ some r → Tail l r
+    closed : (x y : Bool) → cond x (Some m) (cond y (go m) None) ≡ Some r → Tail l r
     closed true y d = let u : m ≡ r = cc in rw u at (on (t (c ∷ m) refl) one)
     closed false true d = on (t (c ∷ m) refl) (more (s m r d))
     closed false false d = never d
 
-behind_same : (f g : List ℕ → Option (List ℕ)) (o : Option (List ℕ)) → ((c : ℕ) (m : List ℕ) → o ≡ some (c ∷ m) → f m ≡ g m) → behind f o ≡ behind g o
+behind_same : (f g : List ℕ → Option (List ℕ)) (o : Option (List ℕ)) → ((c : ℕ) (m : List ℕ) → o ≡ Some (c ∷ m) → f m ≡ g m) → behind f o ≡ behind g o
 unfolding behind
-behind_same f g none h = refl
-behind_same f g (some []) h = refl
-behind_same f g (some (c ∷ m)) h = rw (h c m refl)
+behind_same f g None h = refl
+behind_same f g (Some []) h = refl
+behind_same f g (Some (c ∷ m)) h = rw (h c m refl)
 
 module _ (p : List ℕ → Option (List ℕ)) (shrinks : Shrinks p) where
   forms_shrink : (k : ℕ) → Shrinks (forms_of p k)
@@ -133,7 +129,7 @@ module _ (p : List ℕ → Option (List ℕ)) (shrinks : Shrinks p) where
   inside_shrinks [] r h = never h
   inside_shrinks (c ∷ l) r h = go (eqb c 41) h
     where
-      go : (x : Bool) → cond x (some l) (forms_of p (suc (length l)) (c ∷ l)) ≡ some r → Tail (c ∷ l) r
+      go : (x : Bool) → cond x (Some l) (forms_of p (suc (length l)) (c ∷ l)) ≡ Some r → Tail (c ∷ l) r
       go true d = let u : l ≡ r = cc in rw (sym u) one
       go false d = forms_shrink (suc (length l)) (c ∷ l) r d
 
@@ -142,16 +138,16 @@ module _ (p : List ℕ → Option (List ℕ)) (shrinks : Shrinks p) where
   bracketed_shrinks [] r h = never h
   bracketed_shrinks (b ∷ l) r h = go (eqb b 40) h
     where
-      go : (x : Bool) → cond x (inside p l) (word (b ∷ l)) ≡ some r → Tail (b ∷ l) r
+      go : (x : Bool) → cond x (inside p l) (word (b ∷ l)) ≡ Some r → Tail (b ∷ l) r
       go true d = more (inside_shrinks l r d)
       go false d = word_shrinks (b ∷ l) r d
 
-  at_none : p [] ≡ none
+  at_none : p [] ≡ None
   at_none = go (p []) refl
     where
-      go : (o : Option (List ℕ)) → p [] ≡ o → o ≡ none
-      go none e = refl
-      go (some r) e = absurd (let t = shorter (shrinks [] r e) in omega arith)
+      go : (o : Option (List ℕ)) → p [] ≡ o → o ≡ None
+      go None e = refl
+      go (Some r) e = absurd (let t = shorter (shrinks [] r e) in omega arith)
 
   -- a bound that is large enough is as good as another
   enough : (k j : ℕ) (l : List ℕ) → length l ≤ k → length l ≤ j → forms_of p k l ≡ forms_of p j l
@@ -178,11 +174,11 @@ pub list_is : (d : ℕ) (l : List ℕ) → list_of d l ≡ behind (list_of d) (f
 list_is d l = forms_is (form_of d) (form_shrinks d) l
 
 -- ---- what an answer says
-pub next_at : (s : List ℕ) (k : ℕ) → k ≤ length s → given k ≡ place_reply s (some (drop k s))
+pub next_at : (s : List ℕ) (k : ℕ) → k ≤ length s → given k ≡ place_reply s (Some (drop k s))
 next_at s k h = let e : length s - length (drop k s) ≡ k = simp (length-drop) (omega arith) in rw e
 
 pub record Found (s : List ℕ) (at : ℕ) (d : ℕ) (e : ℕ) : Type 0 where
-  pub left : form_of d (drop at s) ≡ some (drop e s)
+  pub left : form_of d (drop at s) ≡ Some (drop e s)
   pub past : at < e
   pub within : e ≤ length s
 
@@ -190,24 +186,24 @@ pub read_next : (s : List ℕ) (at d e : ℕ) → given e ≡ place_reply s (for
 read_next s at d e h = go (form_of d (drop at s)) refl h
   where
     go : (o : Option (List ℕ)) → form_of d (drop at s) ≡ o → given e ≡ place_reply s o → Found s at d e
-    go none q g = absurd (let z : ◌≡◌ {A = ℕ} 0 1 = cc in omega arith)
-    go (some r) q g =
+    go None q g = absurd (let z : ◌≡◌ {A = ℕ} 0 1 = cc in omega arith)
+    go (Some r) q g =
         let t : Tail (drop at s) r = form_shrinks d (drop at s) r q in
         let u : e ≡ length s - length r = cc in
         let v : r ≡ drop (length s - length r) s = placed (inner at s t) in
         let w : length r < length s - at = rw length-drop at (shorter t) in
-        record { left = q ∙ ap (λ (m : List ℕ). some m) (v ∙ ap (λ (n : ℕ). drop n s) (sym u)); past = omega arith; within = omega arith }
+        record { left = q ∙ ap (λ (m : List ℕ). Some m) (v ∙ ap (λ (n : ℕ). drop n s) (sym u)); past = omega arith; within = omega arith }
 
-pub read_refused : (s : List ℕ) (at d : ℕ) → refused 13 ≡ place_reply s (form_of d (drop at s)) → form_of d (drop at s) ≡ none
+pub read_refused : (s : List ℕ) (at d : ℕ) → refused 13 ≡ place_reply s (form_of d (drop at s)) → form_of d (drop at s) ≡ None
 read_refused s at d h = go (form_of d (drop at s)) h
   where
-    go : (o : Option (List ℕ)) → refused 13 ≡ place_reply s o → o ≡ none
-    go none g = refl
-    go (some r) g = absurd (let z : ◌≡◌ {A = ℕ} 0 1 = cc in omega arith)
+    go : (o : Option (List ℕ)) → refused 13 ≡ place_reply s o → o ≡ None
+    go None g = refl
+    go (Some r) g = absurd (let z : ◌≡◌ {A = ℕ} 0 1 = cc in omega arith)
 
 -- ---- the list reader's answers
 module _ (s : List ℕ) (at d : ℕ) where
-  pub list_refused : form_of d (drop at s) ≡ none → refused 13 ≡ place_reply s (list_of d (drop at s))
+  pub list_refused : form_of d (drop at s) ≡ None → refused 13 ≡ place_reply s (list_of d (drop at s))
   unfolding behind
   list_refused h = rw (list_is d (drop at s), h)
 
@@ -216,7 +212,7 @@ module _ (s : List ℕ) (at d : ℕ) where
     unfolding behind
     list_ends h = rw (list_is d (drop at s), f.left, drop_of_length-le s h)
 
-    list_steps : e < length s → list_of d (drop at s) ≡ behind (list_of d) (some (get_or s e 0 ∷ drop (e + 1) s))
+    list_steps : e < length s → list_of d (drop at s) ≡ behind (list_of d) (Some (get_or s e 0 ∷ drop (e + 1) s))
     list_steps h = rw (list_is d (drop at s), f.left, drop-cons s e 0, ← add-one)
 
     pub list_closed : e < length s → get_or s e 0 ≡ 41 → given (e + 1) ≡ place_reply s (list_of d (drop at s))
@@ -277,9 +273,9 @@ module _ (s : List ℕ) (at d : ℕ) where
         opens' : drop (at + 1) s ≡ get_or s (at + 1) 0 ∷ drop (at + 1 + 1) s
         opens' = drop-cons s (at + 1) 0 w ∙ rw (add-one (at + 1))
 
-        pub form_empty : get_or s (at + 1) 0 ≡ 41 → given (at + 1 + 1) ≡ place_reply s (form_of d (drop at s))
+        pub form_empty : get_or s (at + 1) 0 ≡ 41 → given (at + 2) ≡ place_reply s (form_of d (drop at s))
         unfolding inside
-        form_empty k = next_at s (at + 1 + 1) (omega arith) ∙ rw (into, opens', k)
+        form_empty k = let e : at + 2 ≡ at + 1 + 1 = omega arith in rw e (next_at s (at + 1 + 1) (omega arith) ∙ rw (into, opens', k))
 
         pub form_list : (get_or s (at + 1) 0 ≡ 41 → ⊥) → place_reply s (list_of (d - 1) (drop (at + 1) s)) ≡ place_reply s (form_of d (drop at s))
         unfolding inside

@@ -1,11 +1,8 @@
 -- The shape of a line: what stands behind a form at the head of the bytes, or nothing where none stands there.
 -- 01, Line of the program `assign`: "A form is a word or brackets round forms, at most 4 deep, single blanks between forms; brackets may be empty.
 -- A word is one or more bytes other than blank, newline and brackets."
-use Rattle.std.specs.Prelude.{Bool, cond, not, ◌&&◌, List, [], ◌∷◌, ℕ, zero, suc, ◌+◌, ◌-◌, eqb, length, drop}
-use Rattle.std.proofs.Math.Option.{Option, none, some}
+use Rattle.std.specs.Prelude.{Bool, cond, not, ◌&&◌, List, [], ◌∷◌, ℕ, zero, suc, ◌+◌, ◌-◌, eqb, length, drop, Option as Answer, Some, None, Option}
 use Rattle.number.specs.Reply.{Reply, refused, given}
-use Rattle.forms.specs.declared.Read.{Read}
-use Rattle.forms.specs.declared.Read.TheVariants.{Next, Refused}
 
 -- neither blank, newline nor bracket
 abbrev pub word_byte : ℕ → Bool
@@ -22,26 +19,26 @@ word_end s from = from + (length (drop from s) - length (past_word (drop from s)
 
 -- what follows a form inside brackets: the closing bracket, or a blank and the forms that `more` reads
 unfoldable pub behind : (List ℕ → Option (List ℕ)) → Option (List ℕ) → Option (List ℕ)
-behind more none = none
-behind more (some []) = none
-behind more (some (c ∷ l)) = cond (eqb c 41) (some l) (cond (eqb c 32) (more l) none)
+behind more None = None
+behind more (Some []) = None
+behind more (Some (c ∷ l)) = cond (eqb c 41) (Some l) (cond (eqb c 32) (more l) None)
 
 -- one form or more that `one` reads, single blanks between them, and the closing bracket. k bounds their number
 unfoldable pub forms_of : (List ℕ → Option (List ℕ)) → ℕ → List ℕ → Option (List ℕ)
-forms_of one zero l = none
+forms_of one zero l = None
 forms_of one (suc k) l = behind (forms_of one k) (one l)
 
 -- a word, or brackets that are empty or have forms that `one` reads
 unfoldable pub word : List ℕ → Option (List ℕ)
-word [] = none
-word (b ∷ l) = cond (word_byte b) (some (past_word l)) none
+word [] = None
+word (b ∷ l) = cond (word_byte b) (Some (past_word l)) None
 
 unfoldable pub inside : (List ℕ → Option (List ℕ)) → List ℕ → Option (List ℕ)
-inside one [] = none
-inside one (c ∷ l) = cond (eqb c 41) (some l) (forms_of one (suc (length l)) (c ∷ l))
+inside one [] = None
+inside one (c ∷ l) = cond (eqb c 41) (Some l) (forms_of one (suc (length l)) (c ∷ l))
 
 unfoldable pub bracketed : (List ℕ → Option (List ℕ)) → List ℕ → Option (List ℕ)
-bracketed one [] = none
+bracketed one [] = None
 bracketed one (b ∷ l) = cond (eqb b 40) (inside one l) (word (b ∷ l))
 
 -- a form of at most `depth` brackets deep
@@ -55,9 +52,9 @@ list_of d l = forms_of (form_of d) (length l) l
 
 -- as a reply: the place in s of what is left, and 13 where no form stands. 01, Line of the program `assign`: "13 for another shape"
 abbrev pub place_reply : List ℕ → Option (List ℕ) → Reply ℕ
-place_reply s none = refused 13
-place_reply s (some l) = given (length s - length l)
+place_reply s None = refused 13
+place_reply s (Some l) = given (length s - length l)
 
-abbrev pub reply_of_read : Read → Reply ℕ
-reply_of_read (Next e) = given e
-reply_of_read Refused = refused 13
+abbrev pub reply_of_read : Answer ℕ → Reply ℕ
+reply_of_read (Some e) = given e
+reply_of_read None = refused 13

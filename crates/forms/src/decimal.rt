@@ -2,87 +2,44 @@
 ghost use Rattle.std.specs.Prelude.{◌≡◌};
 ghost use Rattle.forms.specs.Decimal.{value_of, limited, natural_of, natural_reply, reply_of_natural, decimal_of, decimal_reply, reply_of_decimal};
 
-// Digits' value, or that there is none in the range.
-#[derive(Clone, Copy)]
-pub enum Natural {
-    Count(u32),
-    NoCount,
-}
+const LARGEST: u32 = 1000000;
 
-// Sign and size, or that the word is no number in the range.
-#[derive(Clone, Copy)]
-pub enum Decimal {
-    Plus(u32),
-    Minus(u32),
-    NoValue,
-}
-
-fn wide(x: u8) -> u32
-    ensures { result ≡ x }
-{
-    x as u32
-}
-
-// Digits, to at most 1,000,000.
-fn value(w: &[u8]) -> Natural
+// Digits, to at most `LARGEST`.
+fn value(w: &[u8]) -> Option<u32>
     ensures { reply_of_natural result ≡ natural_reply (limited (value_of 0 w.now)) }
 {
-    let mut v: u32 = 0;
-    let mut i: usize = 0;
-    while i < w.len() {
-        let b = w[i];
-        if b < 48 {
-            return Natural::NoCount;
+    let mut v = 0;
+    for b in w {
+        if !b.is_ascii_digit() {
+            return None;
         }
-        if 57 < b {
-            return Natural::NoCount;
+        v = v * 10 + u32::from(*b - b'0');
+        if v > LARGEST {
+            return None;
         }
-        v = v * 10 + wide(b - 48);
-        if 1000000 < v {
-            return Natural::NoCount;
-        }
-        i += 1;
     }
-    Natural::Count(v)
+    Some(v)
 }
 
 // The same with no leading zero.
-pub fn count(w: &[u8]) -> Natural
+pub fn count(w: &[u8]) -> Option<u32>
     ensures { reply_of_natural result ≡ natural_reply (natural_of w.now) }
 {
-    if w.len() == 0 {
-        return Natural::NoCount;
+    match w {
+        [] | [b'0', _, ..] => None,
+        _ => value(w),
     }
-    if w.len() == 1 {
-        return value(w);
-    }
-    if w[0] == 48 {
-        return Natural::NoCount;
-    }
-    value(w)
 }
 
 // A number with its sign; there is no `-0`.
-pub fn number(w: &[u8]) -> Decimal
+pub fn number(w: &[u8]) -> Option<i32>
     ensures { reply_of_decimal result ≡ decimal_reply (decimal_of w.now) }
 {
-    if w.len() == 0 {
-        return Decimal::NoValue;
-    }
-    if w[0] == 45 {
-        match count(&w[1..]) {
-            Natural::NoCount => Decimal::NoValue,
-            Natural::Count(n) => {
-                if n == 0 {
-                    return Decimal::NoValue;
-                }
-                Decimal::Minus(n)
-            }
-        }
-    } else {
-        match count(w) {
-            Natural::NoCount => Decimal::NoValue,
-            Natural::Count(n) => Decimal::Plus(n),
-        }
+    match w {
+        [b'-', digits @ ..] => match count(digits)? {
+            0 => None,
+            n => Some(-(n as i32)),
+        },
+        _ => Some(count(w)? as i32),
     }
 }

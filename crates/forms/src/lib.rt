@@ -6,93 +6,58 @@ pub mod decimal;
 ghost use Rattle.std.specs.Prelude.{◌≡◌, drop};
 ghost use Rattle.forms.specs.Shape.{word_byte, word_end, form_of, list_of, place_reply, reply_of_read};
 
-// The place behind what was read, or that it does not stand there.
-#[derive(Clone, Copy)]
-pub enum Read {
-    Next(usize),
-    Refused,
-}
-
-// Whether a word may have the byte: 32 is the blank, 10 the newline, 40 and 41 the brackets.
+// Whether a word may have the byte.
 fn word_byte(b: u8) -> bool
     ensures { result ≡ word_byte b }
 {
-    if b == 32 {
-        return false;
-    }
-    if b == 10 {
-        return false;
-    }
-    if b == 40 {
-        return false;
-    }
-    b != 41
+    !matches!(b, b' ' | b'\n' | b'(' | b')')
 }
 
 // The first place at or behind `from` that has no byte of a word; a place past the end is left as it is.
 pub fn past_word(s: &[u8], from: usize) -> usize
     ensures { result ≡ word_end s.now from }
 {
-    let mut i = from;
-    while i < s.len() {
+    for i in from..s.len() {
         if !word_byte(s[i]) {
             return i;
         }
-        i += 1;
     }
-    i
+    from.max(s.len())
 }
 
-// A form that starts at `at`, at most `depth` brackets deep.
+// The place behind a form that starts at `at`, at most `depth` brackets deep; none where no form stands there.
 #[cycle(form_list)]
-pub fn form(s: &[u8], at: usize, depth: usize) -> Read
+pub fn form(s: &[u8], at: usize, depth: usize) -> Option<usize>
     ensures { reply_of_read result ≡ place_reply s.now (form_of depth (drop at s.now)) }
 {
-    if s.len() <= at {
-        return Read::Refused;
-    }
-    let b = s[at];
-    let i = at + 1;
-    if b == 40 {
+    let b = *s.get(at)?;
+    if b == b'(' {
         if depth == 0 {
-            return Read::Refused;
+            return None;
         }
-        if s.len() <= i {
-            return Read::Refused;
+        if *s.get(at + 1)? == b')' {
+            return Some(at + 2);
         }
-        if s[i] == 41 {
-            return Read::Next(i + 1);
-        }
-        list(s, i, depth - 1)
+        list(s, at + 1, depth - 1)
     } else if word_byte(b) {
-        Read::Next(past_word(s, i))
+        Some(past_word(s, at + 1))
     } else {
-        Read::Refused
+        None
     }
 }
 
-// One form or more from `at` on, single blanks between them, and the closing bracket.
+// The place behind one form or more from `at` on, single blanks between them, and the closing bracket.
 #[cycle(form_list)]
-pub fn list(s: &[u8], at: usize, depth: usize) -> Read
+pub fn list(s: &[u8], at: usize, depth: usize) -> Option<usize>
     ensures { reply_of_read result ≡ place_reply s.now (list_of depth (drop at s.now)) }
 {
     let mut i = at;
     loop {
-        match form(s, i, depth) {
-            Read::Refused => return Read::Refused,
-            Read::Next(e) => {
-                if s.len() <= e {
-                    return Read::Refused;
-                }
-                let c = s[e];
-                if c == 41 {
-                    return Read::Next(e + 1);
-                }
-                if c != 32 {
-                    return Read::Refused;
-                }
-                i = e + 1;
-            }
+        let end = form(s, i, depth)?;
+        match *s.get(end)? {
+            b')' => return Some(end + 1),
+            b' ' => i = end + 1,
+            _ => return None,
         }
     }
 }

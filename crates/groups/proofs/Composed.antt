@@ -1,9 +1,9 @@
 -- Groups compose: where each group's own takers have the least weight on its own table, all of them have the least weight on the whole table.
+use Rattle.std.specs.Prelude.{None, Option, Some}
 use mathlib.Core.Path.{◌≡◌, refl, sym, ap, ap₂, ◌∙◌, subst}
 use mathlib.Core.Logic.{◌⊎◌, inl, inr}
 use mathlib.Core.Bool.{Bool, true, false, cond, true≢false}
 use mathlib.Core.List.{List, [], ◌∷◌}
-use mathlib.Core.Option.{Option, none, some}
 use Prim.Native.Nat.{ℕ, zero, ◌+◌, ◌*◌, ◌≤◌, ◌<◌}
 use native.Mathlib.Decide.{ℕ_discrete}
 use native.Mathlib.Omega.{arith}
@@ -36,12 +36,12 @@ use Rattle.groups.proofs.Parts.{part, sum_part, Alone, Nowhere, parts_le}
 
 -- a row's place among those that the mask names
 abbrev placed : (ℕ → Bool) → Option ℕ → Option ℕ
-placed m none = none
-placed m (some i) = some (ticks m i)
+placed m None = None
+placed m (Some i) = Some (ticks m i)
 
-placed_some : (m : ℕ → Bool) (o : Option ℕ) (x : ℕ) → placed m o ≡ some x → (i : ℕ) × (o ≡ some i) × (ticks m i ≡ x)
-placed_some m none x e = none_some e
-placed_some m (some i) x e = (i, refl, some_same e)
+placed_some : (m : ℕ → Bool) (o : Option ℕ) (x : ℕ) → placed m o ≡ Some x → (i : ℕ) × (o ≡ Some i) × (ticks m i ≡ x)
+placed_some m None x e = none_some e
+placed_some m (Some i) x e = (i, refl, some_same e)
 
 module _ (costs : List Float) (n m : ℕ) (size : length costs ≡ n * m) (cost : ℕ → ℕ → Integer) (row column : Integer) where
   abbrev allowed : ℕ → ℕ → Bool
@@ -51,16 +51,16 @@ module _ (costs : List Float) (n m : ℕ) (size : length costs ≡ n * m) (cost 
   weighs t j = weight_of cost row column j (t j)
 
   abbrev pub takers : List (Option ℕ) → ℕ → Option ℕ
-  takers t j = get_or t j none
+  takers t j = get_or t j None
 
   -- on the columns of group g the takers t weigh no more than any others
   abbrev pub LeastOn : ℕ → List (Option ℕ) → Type 0
   LeastOn g t = (other : ℕ → Option ℕ) → Takes allowed n m other → sum (part (column_in costs n m g) (weighs (takers t))) m ≤Z sum (part (column_in costs n m g) (weighs other)) m
 
   abbrev pub May : List (Option ℕ) → Type 0
-  May t = (j i : ℕ) → j < m → get_or t j none ≡ some i → allowed i j ≡ true
+  May t = (j i : ℕ) → j < m → get_or t j None ≡ Some i → allowed i j ≡ true
 
-  joined : (i j : ℕ) → i < n → j < m → allowed i j ≡ true → get_or (labels_of costs n m).of_columns j none ≡ some (get_or (labels_of costs n m).of_rows i 0)
+  joined : (i j : ℕ) → i < n → j < m → allowed i j ≡ true → get_or (labels_of costs n m).of_columns j None ≡ Some (get_or (labels_of costs n m).of_rows i 0)
   joined = joined_all finite nan refl n m costs (rw size (omega arith))
 
   module _ (g : ℕ) where
@@ -88,7 +88,7 @@ module _ (costs : List Float) (n m : ℕ) (size : length costs ≡ n * m) (cost 
       abbrev cut : ℕ → Option ℕ
       cut k = placed B (other (column_at costs n m g k))
 
-      row_too : (j i : ℕ) → j < m → C j ≡ true → other j ≡ some i → B i ≡ true
+      row_too : (j i : ℕ) → j < m → C j ≡ true → other j ≡ Some i → B i ≡ true
       row_too j i h e q =
           let l = O.row_in_lem j i h q in
           label_row costs n m size g i l (some_same (sym (joined i j l h (O.may j i h q)) ∙ column_label costs n m size g j h e))
@@ -96,12 +96,12 @@ module _ (costs : List Float) (n m : ℕ) (size : length costs ≡ n * m) (cost 
       -- who takes the k-th column of the group, in the whole table and in its own
       record Cut (k x : ℕ) : Type 0 where
         i : ℕ
-        taker : other (column_at costs n m g k) ≡ some i
+        taker : other (column_at costs n m g k) ≡ Some i
         row_in_lem : i < n
         on : B i ≡ true
         place : ticks B i ≡ x
 
-      cut_at : (k x : ℕ) → k < c → cut k ≡ some x → Cut k x
+      cut_at : (k x : ℕ) → k < c → cut k ≡ Some x → Cut k x
       cut_at k x h e =
           let p = picked_place C m k h in
           let s = placed_some B (other (column_at costs n m g k)) x e in
@@ -124,7 +124,7 @@ module _ (costs : List Float) (n m : ℕ) (size : length costs ≡ n * m) (cost 
               let p = picked_place C m j h in
               let q = picked_place C m k l in
               let e : s.i ≡ t.i = ticks_inj B s.i t.i s.on t.on (s.place ∙ sym t.place) in
-              let f = O.once (column_at costs n m g j) (column_at costs n m g k) s.i p.below q.below s.taker (t.taker ∙ ap some (sym e)) in
+              let f = O.once (column_at costs n m g j) (column_at costs n m g k) s.i p.below q.below s.taker (t.taker ∙ ap Some (sym e)) in
               sym p.at ∙ ap (ticks C) f ∙ q.at
 
       cut_weighs : (j : ℕ) → j < m → C j ≡ true → weight_of own_cost row column (ticks C j) (cut (ticks C j)) ≡ weighs other j
@@ -134,12 +134,12 @@ module _ (costs : List Float) (n m : ℕ) (size : length costs ≡ n * m) (cost 
           z = picked_ticks C j m h e
 
           go : (o : Option ℕ) → other j ≡ o → weight_of own_cost row column (ticks C j) (placed B o) ≡ weight_of cost row column j o
-          go none q = refl
-          go (some i) q = ap₂ (λ (x y : ℕ). cost x y -Z row) (picked_ticks B i n (O.row_in_lem j i h q) (row_too j i h e q)) z
+          go None q = refl
+          go (Some i) q = ap₂ (λ (x y : ℕ). cost x y -Z row) (picked_ticks B i n (O.row_in_lem j i h q) (row_too j i h e q)) z
 
     -- ---- the group's own takers
     module _ (t own : List (Option ℕ)) (S : Sound costs n m t) (long : length own ≡ c) (K : LeastTakes (allows T) own_cost row column r c (takers own)) where
-      own_in : (k x : ℕ) → get_or own k none ≡ some x → k < c
+      own_in : (k x : ℕ) → get_or own k None ≡ Some x → k < c
       own_in k x e = rw long at (some_in own k x e)
 
       own_good : Good r c own
@@ -148,7 +148,7 @@ module _ (costs : List Float) (n m : ℕ) (size : length costs ≡ n * m) (cost 
       abbrev t' : List (Option ℕ)
       t' = put costs n m g t own
 
-      at : (j : ℕ) → j < m → get_or t' j none ≡ cond (C j) (named (own_rows costs n m g) (get_or own (ticks C j) none)) (get_or t j none)
+      at : (j : ℕ) → j < m → get_or t' j None ≡ cond (C j) (named (own_rows costs n m g) (get_or own (ticks C j) None)) (get_or t j None)
       at = put_at costs n m size g t own S own_good
 
       put_sound : Sound costs n m t'
@@ -157,20 +157,20 @@ module _ (costs : List Float) (n m : ℕ) (size : length costs ≡ n * m) (cost 
       put_may : May t → May t'
       put_may M j i h e = go (from costs n m size g t own S own_good j i h e)
         where
-          go : In costs n m size g t own S own_good j i ⊎ ((C j ≡ false) × (get_or t j none ≡ some i)) → allowed i j ≡ true
+          go : In costs n m size g t own S own_good j i ⊎ ((C j ≡ false) × (get_or t j None ≡ Some i)) → allowed i j ≡ true
           go (inl p) =
               let k : ticks C j < c = ticks_below C j m h p.on in
               let x = K.takes.row_in_lem (ticks C j) p.x k p.taker in
               ap finite (ap₂ (λ (a b : ℕ). get_or costs (a * m + b) nan) (sym p.is) (sym (picked_ticks C j m h p.on)) ∙ sym (table_at costs n m size g p.x (ticks C j) x k)) ∙ K.takes.may (ticks C j) p.x k p.taker
           go (inr p) = M j i h p.1
 
-      own_weighs : (j : ℕ) → j < m → C j ≡ true → weight_of own_cost row column (ticks C j) (get_or own (ticks C j) none) ≡ weighs (takers t') j
+      own_weighs : (j : ℕ) → j < m → C j ≡ true → weight_of own_cost row column (ticks C j) (get_or own (ticks C j) None) ≡ weighs (takers t') j
       unfolding named
-      own_weighs j h e = go (get_or own (ticks C j) none) ∙ ap (weight_of cost row column j) (sym (at j h ∙ ap (λ (b : Bool). cond b (named (own_rows costs n m g) (get_or own (ticks C j) none)) (get_or t j none)) e))
+      own_weighs j h e = go (get_or own (ticks C j) None) ∙ ap (weight_of cost row column j) (sym (at j h ∙ ap (λ (b : Bool). cond b (named (own_rows costs n m g) (get_or own (ticks C j) None)) (get_or t j None)) e))
         where
           go : (o : Option ℕ) → weight_of own_cost row column (ticks C j) o ≡ weight_of cost row column j (named (own_rows costs n m g) o)
-          go none = refl
-          go (some x) = ap₂ (λ (a b : ℕ). cost a b -Z row) (ap (λ (l : List ℕ). get_or l x 0) (sym (rows_are costs n m size g))) (picked_ticks C j m h e)
+          go None = refl
+          go (Some x) = ap₂ (λ (a b : ℕ). cost a b -Z row) (ap (λ (l : List ℕ). get_or l x 0) (sym (rows_are costs n m size g))) (picked_ticks C j m h e)
 
       put_least : LeastOn g t'
       put_least other O =
@@ -189,7 +189,7 @@ module _ (costs : List Float) (n m : ℕ) (size : length costs ≡ n * m) (cost 
 
           go : (j : ℕ) → j < m → (b : Bool) → column_in costs n m k j ≡ b → cond b (weighs (takers t') j) 0_z ≈ cond b (weighs (takers t) j) 0_z
           go j h false e = omega arith
-          go j h true e = rw (at j h ∙ ap (λ (b : Bool). cond b (named (own_rows costs n m g) (get_or own (ticks C j) none)) (get_or t j none)) (off j h e)) (omega arith)
+          go j h true e = rw (at j h ∙ ap (λ (b : Bool). cond b (named (own_rows costs n m g) (get_or own (ticks C j) None)) (get_or t j None)) (off j h e)) (omega arith)
 
     -- a group with no column has nothing to weigh
     empty_least : (t : List (Option ℕ)) → any same (column_mask costs n m g) ≡ false → LeastOn g t
@@ -281,25 +281,25 @@ module _ (costs : List Float) (n m : ℕ) (size : length costs ≡ n * m) (cost 
     abbrev Cs : ℕ → ℕ → Bool
     Cs g = column_in costs n m g
 
-    none_off : (j : ℕ) → j < m → get_or (labels_of costs n m).of_columns j none ≡ none → (k : ℕ) → k < n → Cs k j ≡ false
+    none_off : (j : ℕ) → j < m → get_or (labels_of costs n m).of_columns j None ≡ None → (k : ℕ) → k < n → Cs k j ≡ false
     none_off j h e k l = not_true (Cs k j) (λ q. none_some (sym e ∙ column_label costs n m size k j h q))
 
-    module _ (q : Composed (up_from zero R) (replicate m none)) where
+    module _ (q : Composed (up_from zero R) (replicate m None)) where
       all_takes : Takes allowed n m (takers q.u)
       all_takes = record { row_in_lem = λ j i h e. q.sound.low j i e; may = q.may; once = λ j k i h l e f. q.sound.inj j k i e f }
 
       -- each column is in one group, or no row may take it
       place : (other : ℕ → Option ℕ) → Takes allowed n m other → (j : ℕ) → j < m → Alone Cs n j ⊎ (Nowhere Cs n j × (weighs (takers q.u) j ≤Z weighs other j))
-      place other O j h = go (get_or (labels_of costs n m).of_columns j none) refl
+      place other O j h = go (get_or (labels_of costs n m).of_columns j None) refl
         where
-          untaken : (t : ℕ → Option ℕ) → ((i : ℕ) → t j ≡ some i → get_or (labels_of costs n m).of_columns j none ≡ some (get_or (labels_of costs n m).of_rows i 0)) → get_or (labels_of costs n m).of_columns j none ≡ none → (o : Option ℕ) → t j ≡ o → t j ≡ none
-          untaken t f e none z = z
-          untaken t f e (some i) z = none_some (sym e ∙ f i z)
+          untaken : (t : ℕ → Option ℕ) → ((i : ℕ) → t j ≡ Some i → get_or (labels_of costs n m).of_columns j None ≡ Some (get_or (labels_of costs n m).of_rows i 0)) → get_or (labels_of costs n m).of_columns j None ≡ None → (o : Option ℕ) → t j ≡ o → t j ≡ None
+          untaken t f e None z = z
+          untaken t f e (Some i) z = none_some (sym e ∙ f i z)
 
-          go : (o : Option ℕ) → get_or (labels_of costs n m).of_columns j none ≡ o → Alone Cs n j ⊎ (Nowhere Cs n j × (weighs (takers q.u) j ≤Z weighs other j))
-          go (some g) e = inl (g, (labelled costs n m size).col_low j g e, label_column costs n m size g j h e, λ k l d. not_true (Cs k j) (λ z. d (some_same (sym (column_label costs n m size k j h z) ∙ e))))
-          go none e =
-              let a = untaken (takers q.u) (λ i z. q.sound.own j i z) e (get_or q.u j none) refl in
+          go : (o : Option ℕ) → get_or (labels_of costs n m).of_columns j None ≡ o → Alone Cs n j ⊎ (Nowhere Cs n j × (weighs (takers q.u) j ≤Z weighs other j))
+          go (Some g) e = inl (g, (labelled costs n m size).col_low j g e, label_column costs n m size g j h e, λ k l d. not_true (Cs k j) (λ z. d (some_same (sym (column_label costs n m size k j h z) ∙ e))))
+          go None e =
+              let a = untaken (takers q.u) (λ i z. q.sound.own j i z) e (get_or q.u j None) refl in
               let b = untaken other (λ i z. joined i j (O.row_in_lem j i h z) h (O.may j i h z)) e (other j) refl in
               inr (none_off j h e, rw (a, b) (omega arith))
 
@@ -309,8 +309,8 @@ module _ (costs : List Float) (n m : ℕ) (size : length costs ≡ n * m) (cost 
 -- the groups of a table of whole costs, each solved right: all takers together have the least weight
 pub groups_least : (costs : List Float) (n m : ℕ) → n ≤ 64 → m ≤ 64 → length costs ≡ n * m → (dense : List (List Float) → Reply (List (Option ℕ))) (cost : ℕ → ℕ → Integer) (row column : Integer) → Solves dense row column
     → ((i j : ℕ) → i < n → j < m → finite (get_or costs (i * m + j) nan) ≡ true → WholeValue (get_or costs (i * m + j) nan) (cost i j) × Within 1_000_000 (cost i j))
-    → (t : List (Option ℕ)) × (groups dense (rows_of n m costs) (labels finite (rows_of n m costs) m) (up_from zero (rows_of n m costs)) (replicate m none) ≡ given t) × (length t ≡ m)
-    × LeastTakes (λ i j. finite (get_or costs (i * m + j) nan)) cost row column n m (λ j. get_or t j none)
+    → (t : List (Option ℕ)) × (groups dense (rows_of n m costs) (labels finite (rows_of n m costs) m) (up_from zero (rows_of n m costs)) (replicate m None) ≡ given t) × (length t ≡ m)
+    × LeastTakes (λ i j. finite (get_or costs (i * m + j) nan)) cost row column n m (λ j. get_or t j None)
 groups_least costs n m hn hm size dense cost row column solves whole =
-    let q = composed costs n m size cost row column hn hm dense solves whole (up_from zero (rows_of n m costs)) (replicate m none) (none_sound costs n m) (λ j i h e. none_some (sym (nones_at m j) ∙ e)) in
+    let q = composed costs n m size cost row column hn hm dense solves whole (up_from zero (rows_of n m costs)) (replicate m None) (none_sound costs n m) (λ j i h e. none_some (sym (nones_at m j) ∙ e)) in
     (q.u, q.is, q.sound.long, all_least costs n m size cost row column hn hm dense solves whole q)

@@ -1,8 +1,8 @@
 -- A group by its labels: who is in its masks, the size of its own table, and the costs in it.
+use Rattle.std.specs.Prelude.{None, Option, Some}
 use mathlib.Core.Path.{◌≡◌, refl, sym, ap, ◌∙◌}
 use mathlib.Core.Bool.{Bool, true, false, true≢false}
 use mathlib.Core.List.{List, [], map}
-use mathlib.Core.Option.{Option, none, some}
 use Prim.Native.Nat.{ℕ, zero, ◌+◌, ◌*◌, ◌<◌}
 use native.Mathlib.Nat.{mul-le-mul_right}
 use native.Mathlib.Omega.{arith}
@@ -44,17 +44,17 @@ module _ (costs : List Float) (n m : ℕ) (size : length costs ≡ n * m) where
     rows_long : length (row_mask costs n m g) ≡ n
     rows_long = length-map (labels_of costs n m).of_rows (eqb g) ∙ labelled.rows_long
 
-    label_some : (o : Option ℕ) → is_label g o ≡ true → o ≡ some g
+    label_some : (o : Option ℕ) → is_label g o ≡ true → o ≡ Some g
     unfolding is_label
-    label_some none e = absurd (true≢false (sym e))
-    label_some (some l) e = ap some (sym (eqb-true g l e))
+    label_some None e = absurd (true≢false (sym e))
+    label_some (Some l) e = ap Some (sym (eqb-true g l e))
 
-    pub column_label : (j : ℕ) → j < m → C j ≡ true → get_or (labels_of costs n m).of_columns j none ≡ some g
-    column_label j h e = label_some (get_or (labels_of costs n m).of_columns j none) (sym (map_at (is_label g) (labels_of costs n m).of_columns j none false (rw labelled.cols_long h)) ∙ e)
+    pub column_label : (j : ℕ) → j < m → C j ≡ true → get_or (labels_of costs n m).of_columns j None ≡ Some g
+    column_label j h e = label_some (get_or (labels_of costs n m).of_columns j None) (sym (map_at (is_label g) (labels_of costs n m).of_columns j None false (rw labelled.cols_long h)) ∙ e)
 
-    pub label_column : (j : ℕ) → j < m → get_or (labels_of costs n m).of_columns j none ≡ some g → C j ≡ true
+    pub label_column : (j : ℕ) → j < m → get_or (labels_of costs n m).of_columns j None ≡ Some g → C j ≡ true
     unfolding is_label
-    label_column j h e = map_at (is_label g) (labels_of costs n m).of_columns j none false (rw labelled.cols_long h) ∙ ap (is_label g) e ∙ eq-eqb g g refl
+    label_column j h e = map_at (is_label g) (labels_of costs n m).of_columns j None false (rw labelled.cols_long h) ∙ ap (is_label g) e ∙ eq-eqb g g refl
 
     pub row_label : (i : ℕ) → i < n → B i ≡ true → get_or (labels_of costs n m).of_rows i 0 ≡ g
     row_label i h e = sym (eqb-true g (get_or (labels_of costs n m).of_rows i 0) (sym (map_at (eqb g) (labels_of costs n m).of_rows i 0 false (rw labelled.rows_long h)) ∙ e))

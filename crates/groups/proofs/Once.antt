@@ -1,9 +1,9 @@
 -- No row is taken by two columns, for every table: so each row and each column stands in exactly one pair or one list.
+use Rattle.std.specs.Prelude.{None, Option, Some}
 use mathlib.Core.Path.{◌≡◌, refl, sym, ap, ◌∙◌, subst}
 use mathlib.Core.Logic.{◌⊎◌, inl, inr}
 use mathlib.Core.Bool.{Bool, true, false, cond, true≢false}
 use mathlib.Core.List.{List, [], ◌∷◌, map}
-use mathlib.Core.Option.{Option, none, some}
 use Prim.Native.Nat.{ℕ, zero, suc, ◌+◌, ◌*◌, ◌≤◌, ◌<◌}
 use native.Mathlib.Omega.{arith}
 use lib.ListN.{get_or, length, take, drop, length-map, length-drop, length-replicate, replicate}
@@ -34,8 +34,8 @@ use Rattle.groups.proofs.Group.{columns_long, column_label, label_column, row_la
 -- ---- a group's own takers
 pub record Good (r c : ℕ) (own : List (Option ℕ)) : Type 0 where
   pub long : length own ≡ c
-  pub low : (j x : ℕ) → get_or own j none ≡ some x → x < r
-  pub inj : (j k x : ℕ) → get_or own j none ≡ some x → get_or own k none ≡ some x → j ≡ k
+  pub low : (j x : ℕ) → get_or own j None ≡ Some x → x < r
+  pub inj : (j k x : ℕ) → get_or own j None ≡ Some x → get_or own k None ≡ Some x → j ≡ k
 
 -- a solver whose every answer is such
 abbrev pub Fair : (List (List Float) → Reply (List (Option ℕ))) → Type 0
@@ -66,14 +66,14 @@ module _ (q : Square Float) (few : q.rows + q.cols < 129) where
       front_long : length f ≡ q.cols
       front_long = length-map (take q.cols (drop 1 s.p)) (taker_of q.rows) ∙ short
 
-      in_c : (j x : ℕ) → get_or f j none ≡ some x → j < q.cols
+      in_c : (j x : ℕ) → get_or f j None ≡ Some x → j < q.cols
       in_c j x h = rw front_long at (some_in f j x h)
 
-      at : (j x : ℕ) → get_or f j none ≡ some x → (get_or s.p (j + 1) 0 ≡ suc x) × (x < q.rows)
+      at : (j x : ℕ) → get_or f j None ≡ Some x → (get_or s.p (j + 1) 0 ≡ suc x) × (x < q.rows)
       at j x h =
           let l = in_c j x h in
           let z : 1 + j ≡ j + 1 = omega arith in
-          let v : get_or f j none ≡ taker_of q.rows (get_or s.p (j + 1) 0) = map_at (taker_of q.rows) (take q.cols (drop 1 s.p)) j 0 none (rw short l) ∙ ap (taker_of q.rows) (get_or-take q.cols (drop 1 s.p) j 0 l ∙ get_or-drop 1 s.p j 0 ∙ ap (λ (i : ℕ). get_or s.p i 0) z) in
+          let v : get_or f j None ≡ taker_of q.rows (get_or s.p (j + 1) 0) = map_at (taker_of q.rows) (take q.cols (drop 1 s.p)) j 0 None (rw short l) ∙ ap (taker_of q.rows) (get_or-take q.cols (drop 1 s.p) j 0 l ∙ get_or-drop 1 s.p j 0 ∙ ap (λ (i : ℕ). get_or s.p i 0) z) in
           taker_is q.rows (get_or s.p (j + 1) 0) x (sym v ∙ h)
 
       pair : (j k x : ℕ) → get_or s.p (j + 1) 0 ≡ suc x → get_or s.p (k + 1) 0 ≡ suc x → j < q.cols → k < q.cols → j ≡ k
@@ -95,9 +95,9 @@ own_fair far rowCost columnCost T r c hr hc long wide own e =
 -- a taker is of its column's own group, and takes no other column
 pub record Sound (costs : List Float) (n m : ℕ) (t : List (Option ℕ)) : Type 0 where
   pub long : length t ≡ m
-  pub low : (j i : ℕ) → get_or t j none ≡ some i → i < n
-  pub own : (j i : ℕ) → get_or t j none ≡ some i → get_or (labels_of costs n m).of_columns j none ≡ some (get_or (labels_of costs n m).of_rows i 0)
-  pub inj : (j k i : ℕ) → get_or t j none ≡ some i → get_or t k none ≡ some i → j ≡ k
+  pub low : (j i : ℕ) → get_or t j None ≡ Some i → i < n
+  pub own : (j i : ℕ) → get_or t j None ≡ Some i → get_or (labels_of costs n m).of_columns j None ≡ Some (get_or (labels_of costs n m).of_rows i 0)
+  pub inj : (j k i : ℕ) → get_or t j None ≡ Some i → get_or t k None ≡ Some i → j ≡ k
 
 -- the group's takers, put at its columns
 abbrev pub put : List Float → ℕ → ℕ → ℕ → List (Option ℕ) → List (Option ℕ) → List (Option ℕ)
@@ -119,56 +119,56 @@ module _ (costs : List Float) (n m : ℕ) (size : length costs ≡ n * m) (g : �
   long' : length t' ≡ m
   long' = spread_long (column_mask costs n m g) (map (named (own_rows costs n m g)) own) t mask_long ∙ S.long
 
-  pub put_at : (j : ℕ) → j < m → get_or t' j none ≡ cond (C j) (named (own_rows costs n m g) (get_or own (ticks C j) none)) (get_or t j none)
-  put_at j h = spread_at none (column_mask costs n m g) (map (named (own_rows costs n m g)) own) t j mask_long (rw S.long h) (rw (length-map own (named (own_rows costs n m g)), G.long, columns_long costs n m size g) (omega arith)) ∙ by (C j) refl
+  pub put_at : (j : ℕ) → j < m → get_or t' j None ≡ cond (C j) (named (own_rows costs n m g) (get_or own (ticks C j) None)) (get_or t j None)
+  put_at j h = spread_at None (column_mask costs n m g) (map (named (own_rows costs n m g)) own) t j mask_long (rw S.long h) (rw (length-map own (named (own_rows costs n m g)), G.long, columns_long costs n m size g) (omega arith)) ∙ by (C j) refl
     where
-      by : (b : Bool) → C j ≡ b → cond b (get_or (map (named (own_rows costs n m g)) own) (ticks C j) none) (get_or t j none) ≡ cond b (named (own_rows costs n m g) (get_or own (ticks C j) none)) (get_or t j none)
-      by true e = map_at (named (own_rows costs n m g)) own (ticks C j) none none (rw G.long (ticks_below C j m h e))
+      by : (b : Bool) → C j ≡ b → cond b (get_or (map (named (own_rows costs n m g)) own) (ticks C j) None) (get_or t j None) ≡ cond b (named (own_rows costs n m g) (get_or own (ticks C j) None)) (get_or t j None)
+      by true e = map_at (named (own_rows costs n m g)) own (ticks C j) None None (rw G.long (ticks_below C j m h e))
       by false e = refl
 
   -- from the group's own takers, or as it was
   pub record In (j i : ℕ) : Type 0 where
     pub on : C j ≡ true
     pub x : ℕ
-    pub taker : get_or own (ticks C j) none ≡ some x
+    pub taker : get_or own (ticks C j) None ≡ Some x
     pub is : row_at costs n m g x ≡ i
     pub row : i < n
     pub label : get_or (labels_of costs n m).of_rows i 0 ≡ g
     pub place : ticks B i ≡ x
 
-  named_some : (o : Option ℕ) (i : ℕ) → named (own_rows costs n m g) o ≡ some i → (x : ℕ) × (o ≡ some x) × (get_or (own_rows costs n m g) x 0 ≡ i)
+  named_some : (o : Option ℕ) (i : ℕ) → named (own_rows costs n m g) o ≡ Some i → (x : ℕ) × (o ≡ Some x) × (get_or (own_rows costs n m g) x 0 ≡ i)
   unfolding named
-  named_some none i e = none_some e
-  named_some (some x) i e = (x, refl, some_same e)
+  named_some None i e = none_some e
+  named_some (Some x) i e = (x, refl, some_same e)
 
-  pub from : (j i : ℕ) → j < m → get_or t' j none ≡ some i → In j i ⊎ ((C j ≡ false) × (get_or t j none ≡ some i))
+  pub from : (j i : ℕ) → j < m → get_or t' j None ≡ Some i → In j i ⊎ ((C j ≡ false) × (get_or t j None ≡ Some i))
   from j i h e = go (C j) refl (sym (put_at j h) ∙ e)
     where
-      go : (b : Bool) → C j ≡ b → cond (C j) (named (own_rows costs n m g) (get_or own (ticks C j) none)) (get_or t j none) ≡ some i → In j i ⊎ ((C j ≡ false) × (get_or t j none ≡ some i))
+      go : (b : Bool) → C j ≡ b → cond (C j) (named (own_rows costs n m g) (get_or own (ticks C j) None)) (get_or t j None) ≡ Some i → In j i ⊎ ((C j ≡ false) × (get_or t j None ≡ Some i))
       go false q w = inr (q, rw q at w)
       go true q w =
-          let u = named_some (get_or own (ticks C j) none) i (rw q at w) in
+          let u = named_some (get_or own (ticks C j) None) i (rw q at w) in
           let y : u.0 < height costs n m g = G.low (ticks C j) u.0 u.1 in
           let z : row_at costs n m g u.0 ≡ i = ap (λ (k : List ℕ). get_or k u.0 0) (sym (rows_are costs n m size g)) ∙ u.2 in
           let p : Place B n u.0 i = subst (λ (k : ℕ). Place B n u.0 k) z (picked_place B n u.0 y) in
           inl (record { on = q; x = u.0; taker = u.1; is = z; row = p.below; label = row_label costs n m size g i p.below p.on; place = p.at })
 
-  in-m : (j i : ℕ) → get_or t' j none ≡ some i → j < m
+  in-m : (j i : ℕ) → get_or t' j None ≡ Some i → j < m
   in-m j i e = rw long' at (some_in t' j i e)
 
-  clash : (j k i : ℕ) → k < m → In j i → C k ≡ false → get_or t k none ≡ some i → ⊥
-  clash j k i h p f e = true≢false (sym (label_column costs n m size g k h (S.own k i e ∙ ap some p.label)) ∙ f)
+  clash : (j k i : ℕ) → k < m → In j i → C k ≡ false → get_or t k None ≡ Some i → ⊥
+  clash j k i h p f e = true≢false (sym (label_column costs n m size g k h (S.own k i e ∙ ap Some p.label)) ∙ f)
 
   pub group_sound : Sound costs n m t'
   group_sound = record {
     long = long';
     low = λ j i e. elim (from j i (in-m j i e) e) [ inl p ↦ p.row | inr p ↦ S.low j i p.1 ];
-    own = λ j i e. elim (from j i (in-m j i e) e) [ inl p ↦ column_label costs n m size g j (in-m j i e) p.on ∙ ap some (sym p.label) | inr p ↦ S.own j i p.1 ];
+    own = λ j i e. elim (from j i (in-m j i e) e) [ inl p ↦ column_label costs n m size g j (in-m j i e) p.on ∙ ap Some (sym p.label) | inr p ↦ S.own j i p.1 ];
     inj = λ j k i e f. two j k i (in-m j i e) (in-m k i f) (from j i (in-m j i e) e) (from k i (in-m k i f) f);
   }
     where
-      two : (j k i : ℕ) → j < m → k < m → In j i ⊎ ((C j ≡ false) × (get_or t j none ≡ some i)) → In k i ⊎ ((C k ≡ false) × (get_or t k none ≡ some i)) → j ≡ k
-      two j k i hj hk (inl p) (inl q) = ticks_inj C j k p.on q.on (G.inj (ticks C j) (ticks C k) p.x p.taker (q.taker ∙ ap some (sym q.place ∙ p.place)))
+      two : (j k i : ℕ) → j < m → k < m → In j i ⊎ ((C j ≡ false) × (get_or t j None ≡ Some i)) → In k i ⊎ ((C k ≡ false) × (get_or t k None ≡ Some i)) → j ≡ k
+      two j k i hj hk (inl p) (inl q) = ticks_inj C j k p.on q.on (G.inj (ticks C j) (ticks C k) p.x p.taker (q.taker ∙ ap Some (sym q.place ∙ p.place)))
       two j k i hj hk (inl p) (inr q) = absurd (clash j k i hk p q.0 q.1)
       two j k i hj hk (inr p) (inl q) = absurd (clash k j i hj q p.0 p.1)
       two j k i hj hk (inr p) (inr q) = S.inj j k i p.1 q.1
@@ -194,12 +194,12 @@ module _ (costs : List Float) (n m : ℕ) (hn : n ≤ 64) (hm : m ≤ 64) (size 
       let p = bound (group_in dense (any same (column_mask costs n m g)) R (up_from zero R) (row_mask costs n m g) (column_mask costs n m g) t) _ u e in
       groups_sound gs p.0 u (step_sound g (any same (column_mask costs n m g)) t p.0 refl S p.1) p.2
 
-pub none_sound : (costs : List Float) (n m : ℕ) → Sound costs n m (replicate m none)
-none_sound costs n m = record { long = length-replicate m none; low = λ j i e. none_some (sym (nones_at m j) ∙ e); own = λ j i e. none_some (sym (nones_at m j) ∙ e); inj = λ j k i e f. none_some (sym (nones_at m j) ∙ e) }
+pub none_sound : (costs : List Float) (n m : ℕ) → Sound costs n m (replicate m None)
+none_sound costs n m = record { long = length-replicate m None; low = λ j i e. none_some (sym (nones_at m j) ∙ e); own = λ j i e. none_some (sym (nones_at m j) ∙ e); inj = λ j k i e f. none_some (sym (nones_at m j) ∙ e) }
 
 -- the whole table
 pub pairing_sound : (costs : List Float) (n m : ℕ) → n ≤ 64 → m ≤ 64 → length costs ≡ n * m → (rowCost columnCost : Float) (t : List (Option ℕ)) → pairing rowCost columnCost (rows_of n m costs) m ≡ given t → Sound costs n m t
 unfolding pairing
 pairing_sound costs n m hn hm size rowCost columnCost t e =
     let far = sentinel_of (largest_of (larger_of rowCost columnCost) (rows_of n m costs)) in
-    groups_sound costs n m hn hm size (own_reply far rowCost columnCost) (own_fair far rowCost columnCost) (up_from zero (rows_of n m costs)) (replicate m none) t (none_sound costs n m) e
+    groups_sound costs n m hn hm size (own_reply far rowCost columnCost) (own_fair far rowCost columnCost) (up_from zero (rows_of n m costs)) (replicate m None) t (none_sound costs n m) e

@@ -1,6 +1,5 @@
 -- Solvers of one group's own table.
-use Rattle.std.specs.Prelude.{◌≡◌, Bool, true, List, [], ℕ, ◌≤◌, ◌<◌, get_or, length, Float}
-use Rattle.std.proofs.Math.Option.{Option, none}
+use Rattle.std.specs.Prelude.{◌≡◌, Bool, true, List, [], ℕ, ◌≤◌, ◌<◌, get_or, length, Float, None, Option}
 use Rattle.std.specs.Float.{nan}
 use Rattle.std.specs.Float.Ieee.Scale.{finite}
 use Rattle.number.specs.Reply.{Reply, given}
@@ -26,4 +25,4 @@ allows T i j = finite (entry_of T i j)
 abbrev pub Solves : (List (List Float) → Reply (List (Option ℕ))) → Integer → Integer → Type 0
 Solves dense row column = (T : List (List Float)) (r c : ℕ) (cost : ℕ → ℕ → Integer) → 0 < r → r ≤ 64 → c ≤ 64 → length T ≡ r → ((i : ℕ) → i < r → length (get_or T i []) ≡ c)
     → ((i j : ℕ) → i < r → j < c → allows T i j ≡ true → WholeValue (entry_of T i j) (cost i j) × Within 1_000_000 (cost i j))
-    → (own : List (Option ℕ)) × (dense T ≡ given own) × (length own ≡ c) × LeastTakes (allows T) cost row column r c (λ j. get_or own j none)
+    → (own : List (Option ℕ)) × (dense T ≡ given own) × (length own ≡ c) × LeastTakes (allows T) cost row column r c (λ j. get_or own j None)

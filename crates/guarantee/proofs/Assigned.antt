@@ -1,7 +1,7 @@
 -- A far column changes nothing in one assignment, in the cascade and so in the batch's pairing: it is taken by no row, and without it the others are taken as before. Assumes nothing.
+use Rattle.std.specs.Prelude.{None, Option, Some}
 use mathlib.Core.Path.{◌≡◌, refl, sym, ◌∙◌, subst}
 use mathlib.Core.List.{List, [], ◌∷◌, map}
-use mathlib.Core.Option.{Option, none, some}
 use mathlib.Core.Bool.{Bool, true, not, ◌&&◌}
 use Prim.Native.Nat.{ℕ, ◌*◌}
 use native.Mathlib.Omega.{arith}
@@ -12,7 +12,6 @@ use lib.Ieee.{Float}
 use lib.Ieee.Scale.{finite}
 use lib.ListN.{length, length-map}
 use Rattle.number.specs.Reply.{Reply, given}
-use Rattle.settings.specs.Optional.{i64_of}
 use Rattle.settings.specs.declared.Cartesian3DTrackerConfig.{Cartesian3DTrackerConfig}
 use Rattle.lists.specs.Masks.{left_by, Struck, Absent, Every, count, up_from}
 use Rattle.matrix.specs.Matrix.{nought}
@@ -157,12 +156,12 @@ module _ (gate : Float) where
 
   paired_in_steady : (now : ℤ) (ts : List Track3D) (w : Option ℤ) → Steady (paired_in gate w now ts)
   unfolding paired_in
-  paired_in_steady now ts none k rows takers far e = assigned_steady k rows takers far e
-  paired_in_steady now ts (some window) k rows takers far e =
+  paired_in_steady now ts None k rows takers far e = assigned_steady k rows takers far e
+  paired_in_steady now ts (Some window) k rows takers far e =
       let p = bound (each (recent window now) ts) _ takers e in
       let q = cascaded_steady p.0 k rows takers far p.2 in
       (then_given _ _ p.0 p.1 ∙ q.0, q.1)
 
 pub paired_steady : (c : Cartesian3DTrackerConfig) (now : ℤ) (ts : List Track3D) → Steady (paired c now ts)
 unfolding paired
-paired_steady c now ts = paired_in_steady c.gate_squared_mahalanobis now ts (i64_of c.recent_track_window_ns)
+paired_steady c now ts = paired_in_steady c.gate_squared_mahalanobis now ts (c.recent_track_window_ns)

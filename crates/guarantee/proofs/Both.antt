@@ -1,7 +1,7 @@
 -- Two accepted batches from one state that differ only by far detections: what the far ones leave alone. Assumes nothing.
+use Rattle.std.specs.Prelude.{Some}
 use mathlib.Core.Path.{◌≡◌, refl, sym, ap, ◌∙◌, subst}
 use mathlib.Core.List.{List, map, Memᴰ}
-use mathlib.Core.Option.{some}
 use mathlib.Core.Bool.{Bool}
 use Prim.Native.Nat.{ℕ, ◌<◌}
 use lib.IntN.{ℤ}
@@ -124,11 +124,11 @@ module _ (c : Cartesian3DTrackerConfig) (s : State) (sensor : ℕ) (now : ℤ) w
           ∙ ap (associations_from 0) same_fates
           ∙ sym (ap (left_by kb) g.tells ∙ associations_last kb 0 g.born.fates lastB)
 
-      begun : (n : ℕ) → Memᴰ (some n) (map birth_of (left_by ka x.report.associations))
-          → (t : Track3D) × (track_of n x.state.tracks ≡ some t) × (track_of n y.state.tracks ≡ some t)
+      begun : (n : ℕ) → Memᴰ (Some n) (map birth_of (left_by ka x.report.associations))
+          → (t : Track3D) × (track_of n x.state.tracks ≡ Some t) × (track_of n y.state.tracks ≡ Some t)
       begun n m =
           let r = births_found c sensor now (confirmed_places f.made.tracks) (left_by ka f.made.columns) _ A.part A.runs n
-          (subst (Memᴰ (spawned n)) A.same (birth_in_lem n (left_by ka f.born.fates) (subst (Memᴰ (some n)) (born_of ka ds x f) m))) in (
+          (subst (Memᴰ (spawned n)) A.same (birth_in_lem n (left_by ka f.born.fates) (subst (Memᴰ (Some n)) (born_of ka ds x f) m))) in (
             r.1.0,
             ap (track_of n) f.tracks ∙ A.later.stays n r.0 ∙ r.1.1,
             ap (track_of n) g.tracks ∙ B.later.stays n (subst (λ (p : Births). n < p.state.next) same_part r.0)

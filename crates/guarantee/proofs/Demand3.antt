@@ -1,7 +1,7 @@
 -- Demand 3, and that in every state that calls make the track of a number is the only one. Assumes nothing.
+use Rattle.std.specs.Prelude.{Some}
 use mathlib.Core.Path.{◌≡◌}
 use mathlib.Core.List.{List, Memᴰ}
-use mathlib.Core.Option.{some}
 use Rattle.settings.specs.declared.Cartesian3DTrackerConfig.{Cartesian3DTrackerConfig}
 use Rattle.types.specs.declared.track.Track3D.{Track3D}
 use Rattle.types.specs.States.{State}
@@ -26,5 +26,5 @@ demand3 c = demand3_from c fresh_state fresh_numbered
 pub numbered_always : (c : Cartesian3DTrackerConfig) (calls : List Call) → Numbered (run c calls fresh_state)
 numbered_always c calls = run_numbered c calls fresh_state fresh_numbered
 
-pub one_of_a_number : (c : Cartesian3DTrackerConfig) (calls : List Call) (t : Track3D) → let s = run c calls fresh_state in Memᴰ t s.tracks → track_of t.id s.tracks ≡ some t
+pub one_of_a_number : (c : Cartesian3DTrackerConfig) (calls : List Call) (t : Track3D) → let s = run c calls fresh_state in Memᴰ t s.tracks → track_of t.id s.tracks ≡ Some t
 one_of_a_number c calls t m = let s = run c calls fresh_state in the_track_lem s.tracks s.next t (numbered_always c calls) m

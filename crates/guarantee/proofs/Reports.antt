@@ -1,9 +1,9 @@
 -- What a report's associations say, in terms of what became of each detection. Assumes nothing.
+use Rattle.std.specs.Prelude.{None, Option, Some}
 use mathlib.Core.Path.{◌≡◌, refl, sym, ap, ◌∙◌}
 use mathlib.Core.List.Memᴰ
 use mathlib.Core.List.{List, [], ◌∷◌, map, Memᴰ}
 use mathlib.Core.Logic.{◌⊎◌, inl, inr}
-use mathlib.Core.Option.{Option, none, some}
 use mathlib.Core.Bool.{Bool, true, false}
 use Prim.Native.Nat.{ℕ, suc}
 use native.Mathlib.Omega.{arith}
@@ -20,13 +20,13 @@ use Rattle.calls.proofs.Spawning.{match_in}
 use Rattle.guarantee.specs.Claim.{Last, Update, update_of, birth_of, is_plain, Tells}
 
 abbrev pub update_in : Option Match → Option Update
-update_in none = none
-update_in (some m) = some (record { number = m.track; cost = m.cost })
+update_in None = None
+update_in (Some m) = Some (record { number = m.track; cost = m.cost })
 
 abbrev pub birth_in : Fate → Option ℕ
-birth_in (updated m) = none
-birth_in (spawned n) = some n
-birth_in unmatched = none
+birth_in (updated m) = None
+birth_in (spawned n) = Some n
+birth_in unmatched = None
 
 -- ---- one association for each detection, in order, and plain
 
@@ -95,16 +95,16 @@ associations_last (b ∷ k) i [] h = refl
 associations_last (true ∷ k) i (x ∷ l) h = rw (associations_last k (suc i) l h)
 associations_last (false ∷ k) i (x ∷ l) h = all_struck k (associations_from (suc i) l) h ∙ rw (all_struck k l h)
 
-birth_first : (n : ℕ) (x : Fate) (l : List Fate) → some n ≡ birth_in x → Memᴰ (spawned n) (x ∷ l)
+birth_first : (n : ℕ) (x : Fate) (l : List Fate) → Some n ≡ birth_in x → Memᴰ (spawned n) (x ∷ l)
 birth_first n (updated m) l e = absurd (let z : ◌≡◌ {A = ℕ} 0 1 = cc in omega arith)
 birth_first n (spawned k) l e = Memᴰ.head (let same : n ≡ k = cc in ap {B = Fate} spawned same)
 birth_first n unmatched l e = absurd (let z : ◌≡◌ {A = ℕ} 0 1 = cc in omega arith)
 
 -- a birth that is told is one
-pub birth_in_lem : (n : ℕ) (l : List Fate) → Memᴰ (some n) (map birth_in l) → Memᴰ (spawned n) l
+pub birth_in_lem : (n : ℕ) (l : List Fate) → Memᴰ (Some n) (map birth_in l) → Memᴰ (spawned n) l
 birth_in_lem n [] m = absurd (Memᴰ.not-nil m)
 birth_in_lem n (x ∷ l) m = go (Memᴰ.cases_cons m) (birth_in_lem n l)
   where
-    go : (some n ≡ birth_in x) ⊎ Memᴰ (some n) (map birth_in l) → (Memᴰ (some n) (map birth_in l) → Memᴰ (spawned n) l) → Memᴰ (spawned n) (x ∷ l)
+    go : (Some n ≡ birth_in x) ⊎ Memᴰ (Some n) (map birth_in l) → (Memᴰ (Some n) (map birth_in l) → Memᴰ (spawned n) l) → Memᴰ (spawned n) (x ∷ l)
     go (inl e) f = birth_first n x l e
     go (inr m) f = Memᴰ.tail (f m)

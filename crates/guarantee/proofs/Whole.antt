@@ -1,4 +1,5 @@
 -- Demand 3 of whole trackers: calls that answer as their contracts say lead to the state that the definitions give, and so to the guarantee. Assumes nothing.
+use Rattle.std.specs.Prelude.{Ok}
 use mathlib.Core.Path.{◌≡◌, sym, ap, ◌∙◌, subst}
 use mathlib.Core.List.{List, [], ◌∷◌}
 use Rattle.number.specs.Reply.{given}
@@ -6,7 +7,6 @@ use Rattle.settings.specs.declared.Cartesian3DTrackerConfig.{Cartesian3DTrackerC
 use Rattle.types.specs.declared.batch.ObservationBatch3D.{ObservationBatch3D}
 use Rattle.types.specs.declared.batch.BatchReport3D.{BatchReport3D}
 use Rattle.types.specs.declared.tracker.Cartesian3DTracker.{Cartesian3DTracker}
-use Rattle.types.specs.declared.refusal.Outcome.TheVariants as outcome
 use Rattle.types.specs.States.{State, state_of}
 use Rattle.types.specs.Fresh.{fresh_of}
 use Rattle.types.proofs.Overs.{fresh_state_lem}
@@ -51,7 +51,7 @@ steps_state t (call ∷ calls) u h =
 -- ---- the guarantee
 
 module _ (t : Cartesian3DTracker) (calls : List Call) (u : Cartesian3DTracker) (st : Steps t calls u) (b : ObservationBatch3D) (z : Cartesian3DTracker) (r : BatchReport3D)
-    (carried : BatchAnswers u b z outcome.Done r) where
+    (carried : BatchAnswers u b z (Ok tt) r) where
   -- a batch that is carried out gives what the definitions make of it
   given_here : process_reply t.config (state_of u) b ≡ given (done_of z r)
   given_here = subst (λ (c : Cartesian3DTrackerConfig). process_reply c (state_of u) b ≡ given (done_of z r)) (steps_settings t calls u st) (done_given u z b r carried)

@@ -5,13 +5,11 @@
 -- on lists is `Demand3`: there a tracker is its state, and a call is the definition that its contract names.
 --
 -- 01: "This is one claim, about the list and the two whole batch calls after it, and not one for each call or stage."
-use Rattle.std.specs.Prelude.{ℕ, Bool, true, false, ◌≡◌, ℤ, Float, length}
+use Rattle.types.specs.declared.refusal.Refusal.{Refusal}
+use Rattle.std.specs.Prelude.{ℕ, Bool, true, false, ◌≡◌, ℤ, Float, length, None, Ok, Option, Result, Some}
 use mathlib.Core.List.{List, [], ◌∷◌, map, Memᴰ}
-use Rattle.std.proofs.Math.Option.{Option, none, some}
 use Rattle.number.specs.Reply.{given}
 use Rattle.settings.specs.Frame.{name_of}
-use Rattle.settings.specs.declared.optional.OptionalF64.{OptionalF64}
-use Rattle.settings.specs.declared.optional.OptionalF64.TheVariants as f64
 use Rattle.settings.specs.declared.Cartesian3DTrackerConfig.{Cartesian3DTrackerConfig}
 use Rattle.lists.specs.Masks.{left_by, Struck, Every, up_from}
 use Rattle.detections.specs.declared.Detection.{Detection}
@@ -21,12 +19,8 @@ use Rattle.types.specs.declared.batch.ObservationBatch3D.{ObservationBatch3D}
 use Rattle.types.specs.declared.batch.ObservationAssociation.{ObservationAssociation}
 use Rattle.types.specs.declared.batch.ObservationOutcome.{ObservationOutcome}
 use Rattle.types.specs.declared.batch.ObservationOutcome.TheVariants.{Updated, Spawned, Unmatched}
-use Rattle.types.specs.declared.batch.AssociatedTrack.{AssociatedTrack}
-use Rattle.types.specs.declared.batch.AssociatedTrack.TheVariants as track
 use Rattle.types.specs.declared.batch.BatchReport3D.{BatchReport3D}
 use Rattle.types.specs.declared.tracker.Cartesian3DTracker.{Cartesian3DTracker}
-use Rattle.types.specs.declared.refusal.Outcome.{Outcome}
-use Rattle.types.specs.declared.refusal.Outcome.TheVariants as outcome
 use Rattle.types.specs.Batches.{batch_of, Report}
 use Rattle.types.specs.States.{State, state_of}
 use Rattle.types.specs.Fresh.{fresh_state}
@@ -79,39 +73,39 @@ pub record Update : Type 0 where
   pub number : ℕ
   pub cost : Float
 
-abbrev pub update_said : ObservationOutcome → AssociatedTrack → OptionalF64 → Option Update
-update_said Updated (track.Id n) (f64.Some cost) = some (record { number = n; cost = cost })
-update_said Updated (track.Id n) f64.None = none
-update_said Updated track.None cost = none
-update_said Spawned (track.Id n) cost = none
-update_said Spawned track.None cost = none
-update_said Unmatched t cost = none
+abbrev pub update_said : ObservationOutcome → Option ℕ → Option Float → Option Update
+update_said Updated (Some n) (Some cost) = Some (record { number = n; cost = cost })
+update_said Updated (Some n) None = None
+update_said Updated None cost = None
+update_said Spawned (Some n) cost = None
+update_said Spawned None cost = None
+update_said Unmatched t cost = None
 
 unfoldable pub update_of : ObservationAssociation → Option Update
 update_of a = update_said a.outcome a.track_id a.cost
 
 -- That it began the track of this number. To begin a track is a term of 01's own: "A detection begins a track where the birth step puts a new one in the table for it;
 -- leaving a candidate begins none."
-abbrev pub birth_said : ObservationOutcome → AssociatedTrack → OptionalF64 → Option ℕ
-birth_said Updated t cost = none
-birth_said Spawned (track.Id n) cost = some n
-birth_said Spawned track.None cost = none
-birth_said Unmatched t cost = none
+abbrev pub birth_said : ObservationOutcome → Option ℕ → Option Float → Option ℕ
+birth_said Updated t cost = None
+birth_said Spawned (Some n) cost = Some n
+birth_said Spawned None cost = None
+birth_said Unmatched t cost = None
 
 unfoldable pub birth_of : ObservationAssociation → Option ℕ
 birth_of a = birth_said a.outcome a.track_id a.cost
 
 -- The three forms: updated with a number and a cost, begun with a number, neither. Nothing hides in an association of another form.
-abbrev pub is_plain : ObservationOutcome → AssociatedTrack → OptionalF64 → Bool
-is_plain Updated (track.Id n) (f64.Some cost) = true
-is_plain Updated (track.Id n) f64.None = false
-is_plain Updated track.None cost = false
-is_plain Spawned (track.Id n) f64.None = true
-is_plain Spawned (track.Id n) (f64.Some cost) = false
-is_plain Spawned track.None cost = false
-is_plain Unmatched track.None f64.None = true
-is_plain Unmatched track.None (f64.Some cost) = false
-is_plain Unmatched (track.Id n) cost = false
+abbrev pub is_plain : ObservationOutcome → Option ℕ → Option Float → Bool
+is_plain Updated (Some n) (Some cost) = true
+is_plain Updated (Some n) None = false
+is_plain Updated None cost = false
+is_plain Spawned (Some n) None = true
+is_plain Spawned (Some n) (Some cost) = false
+is_plain Spawned None cost = false
+is_plain Unmatched None None = true
+is_plain Unmatched None (Some cost) = false
+is_plain Unmatched (Some n) cost = false
 
 -- A report on these detections: one association for each, in their order, of one of the three forms. So what a mask leaves of the associations is what is said of the detections
 -- that it leaves.
@@ -138,8 +132,8 @@ module _ (c : Cartesian3DTrackerConfig) where
     -- "If the detections not common stand last in each, every common one also begins a track in both or in neither,
     pub begins : Last d.in_a → Last d.in_b → map birth_of (left_by d.in_a x.report.associations) ≡ map birth_of (left_by d.in_b y.report.associations)
     -- and that track is the same bit for bit, number included."
-    pub begun : Last d.in_a → Last d.in_b → (n : ℕ) → Memᴰ (some n) (map birth_of (left_by d.in_a x.report.associations))
-        → (t : Track3D) × (track_of n x.state.tracks ≡ some t) × (track_of n y.state.tracks ≡ some t)
+    pub begun : Last d.in_a → Last d.in_b → (n : ℕ) → Memᴰ (Some n) (map birth_of (left_by d.in_a x.report.associations))
+        → (t : Track3D) × (track_of n x.state.tracks ≡ Some t) × (track_of n y.state.tracks ≡ Some t)
     -- and, beyond the demand, all that is said of the common ones is then the same
     pub said : Last d.in_a → Last d.in_b → left_by d.in_a x.report.associations ≡ left_by d.in_b y.report.associations
 
@@ -183,7 +177,7 @@ pub record Guaranteed (c : Cartesian3DTrackerConfig) (s₀ : State) (calls : Lis
 -- else writes it meanwhile": each call gets what the one before left.
 abbrev pub GuaranteedFrom : Cartesian3DTracker → Type 0
 GuaranteedFrom t = (calls : List Call) (u v w : Cartesian3DTracker) (a b : ObservationBatch3D) (p q : BatchReport3D)
-    → Steps t calls u → BatchAnswers u a v outcome.Done p → BatchAnswers u b w outcome.Done q → (d : DifferByFar t.config (state_of u) a b)
+    → Steps t calls u → BatchAnswers u a v (Ok tt) p → BatchAnswers u b w (Ok tt) q → (d : DifferByFar t.config (state_of u) a b)
     → Guaranteed t.config (state_of t) calls (state_of u) a b d (done_of v p) (done_of w q)
 
 -- from any tracker whose track numbers ascend below its next one, as one that is read from text; false without that, as above
@@ -192,4 +186,4 @@ Demand3WholeFrom t = Numbered (state_of t) → GuaranteedFrom t
 
 -- from what `new` gives, whatever it answers: 01 asks it of accepted settings only
 abbrev pub Demand3Whole : Type 0
-Demand3Whole = (c : Cartesian3DTrackerConfig) (o : Outcome) (t : Cartesian3DTracker) → NewAnswers c o t → GuaranteedFrom t
+Demand3Whole = (c : Cartesian3DTrackerConfig) (o : Result (Unit {0}) Refusal) (t : Cartesian3DTracker) → NewAnswers c o t → GuaranteedFrom t

@@ -2,37 +2,39 @@
 use mathlib.Core.Path.{◌≡◌, refl, sym, ap, ◌∙◌}
 use mathlib.Core.Bool.{Bool, true, false, ◌&&◌}
 use mathlib.Core.List.{List}
-use Prim.Native.Nat.{ℕ, zero, suc, ◌+◌, ◌*◌, ◌≤◌, ◌<◌}
+use Prim.Native.Nat.{ℕ, ◌+◌, ◌*◌, ◌≤◌, ◌<◌}
 use native.Mathlib.Omega.{arith}
 use borrow.Author.Tests.{lt-leb, le-leb, eq-eqb, ne_eqb}
 use lib.Dec.{eqb, leb}
 use lib.ListN.{length}
 use lib.Ieee.{Float}
+use Rattle.std.specs.Prelude.{Result, Ok, Err, is_err}
 use Rattle.number.specs.Reply.{Reply, refused, given, refuse_unless, left_in}
 use Rattle.kuhn_munkres.specs.Binary64.{float}
 use Rattle.kuhn_munkres.specs.Square.{entry}
 use Rattle.kuhn_munkres.specs.Steps.{Search, found, stopped, spent, rows}
 use Rattle.hungarian.specs.Structs.{square_from}
-use Rattle.hungarian.specs.Ends.{matched, halts, loses, end_of, pick_end, end_reply, run_reply, reply_of_run, RunAnswer}
+use Rattle.hungarian.specs.Ends.{end_of, pick_end, end_reply, run_reply, reply_of_run, RunAnswer}
 use Rattle.hungarian.specs.declared.Shape.{Shape}
-use Rattle.hungarian.specs.declared.Run.{Run}
-use Rattle.hungarian.specs.declared.Run.TheVariants.{Matched, TooMany, Failed}
+use Rattle.hungarian.specs.declared.RunError.{RunError}
+use Rattle.hungarian.specs.declared.RunError.TheVariants.{TooMany, Failed}
+use Rattle.hungarian.specs.declared.SearchError.{SearchError}
+use Rattle.hungarian.specs.declared.SearchError.TheVariants.{NotFinite, Spent}
 
-pub end_given : (x : Search Float) (status : ℕ) (p : List ℕ) → status ≡ 0 → pick_end status p ≡ end_of x → given p ≡ end_reply x
+pub end_given : (x : Search Float) (r : Result (Unit {0}) SearchError) (p : List ℕ) → is_err r ≡ false → pick_end r p ≡ end_of x → given p ≡ end_reply x
 unfolding end_reply
-end_given (found s) status p z e = let q : matched p ≡ matched s.p = rw z at e in cc
-end_given stopped status p z e = let q : matched p ≡ halts = rw z at e in absurd (let w : ◌≡◌ {A = ℕ} 0 1 = cc in omega arith)
-end_given spent status p z e = let q : matched p ≡ loses = rw z at e in absurd (let w : ◌≡◌ {A = ℕ} 0 1 = cc in omega arith)
+end_given (found s) (Ok u) p z e = cc
+end_given stopped (Ok u) p z e = absurd (let w : ◌≡◌ {A = ℕ} 0 1 = cc in omega arith)
+end_given spent (Ok u) p z e = absurd (let w : ◌≡◌ {A = ℕ} 0 1 = cc in omega arith)
+end_given x (Err why) p z e = absurd (let w : ◌≡◌ {A = ℕ} 0 1 = cc in omega arith)
 
-pub end_refused : (x : Search Float) (status : ℕ) (p : List ℕ) → (status ≡ 0 → ⊥) → pick_end status p ≡ end_of x → refused 10 ≡ end_reply x
+pub end_refused : (x : Search Float) (r : Result (Unit {0}) SearchError) (p : List ℕ) → is_err r ≡ true → pick_end r p ≡ end_of x → refused 10 ≡ end_reply x
 unfolding end_reply
-end_refused x zero p f e = absurd (f refl)
-end_refused (found s) (suc zero) p f e = absurd (let w : ◌≡◌ {A = ℕ} 0 1 = cc in omega arith)
-end_refused stopped (suc zero) p f e = refl
-end_refused spent (suc zero) p f e = refl
-end_refused (found s) (suc (suc k)) p f e = absurd (let w : ◌≡◌ {A = ℕ} 0 1 = cc in omega arith)
-end_refused stopped (suc (suc k)) p f e = refl
-end_refused spent (suc (suc k)) p f e = refl
+end_refused x (Ok u) p f e = absurd (let w : ◌≡◌ {A = ℕ} 0 1 = cc in omega arith)
+end_refused (found s) (Err NotFinite) p f e = absurd (let w : ◌≡◌ {A = ℕ} 0 1 = cc in omega arith)
+end_refused (found s) (Err Spent) p f e = absurd (let w : ◌≡◌ {A = ℕ} 0 1 = cc in omega arith)
+end_refused stopped (Err why) p f e = refl
+end_refused spent (Err why) p f e = refl
 
 module _ (costs : List Float) (q : Shape) where
   abbrev X : Search Float
@@ -42,26 +44,26 @@ module _ (costs : List Float) (q : Shape) where
   unfolding run_reply
   by a b c p r s = rw (p, r, s)
 
-  declined : (k : ℕ) (r : Run) (p : List ℕ) → ((t : List ℕ) → reply_of_run r t ≡ refused k) → refused k ≡ run_reply costs q → RunAnswer costs q r p p
+  declined : (k : ℕ) (r : Result (Unit {0}) RunError) (p : List ℕ) → ((t : List ℕ) → reply_of_run r t ≡ refused k) → refused k ≡ run_reply costs q → RunAnswer costs q r p p
   declined k r p f e = record { is = f p ∙ e; left = ap (λ (x : Reply (List ℕ)). left_in x p) e }
 
-  pub rows_over : (p : List ℕ) → 64 < q.rows → RunAnswer costs q TooMany p p
-  rows_over p h = declined 11 TooMany p (λ t. refl) (sym (by false (leb q.cols 64) (eqb (length costs) (q.rows * q.cols)) (lt-leb q.rows 64 h) refl refl))
+  pub rows_over : (p : List ℕ) → 64 < q.rows → RunAnswer costs q (Err TooMany) p p
+  rows_over p h = declined 11 (Err TooMany) p (λ t. refl) (sym (by false (leb q.cols 64) (eqb (length costs) (q.rows * q.cols)) (lt-leb q.rows 64 h) refl refl))
 
   module _ (hr : q.rows ≤ 64) where
-    pub columns_over : (p : List ℕ) → 64 < q.cols → RunAnswer costs q TooMany p p
-    columns_over p h = declined 11 TooMany p (λ t. refl) (sym (by true false (eqb (length costs) (q.rows * q.cols)) (le-leb q.rows 64 hr) (lt-leb q.cols 64 h) refl))
+    pub columns_over : (p : List ℕ) → 64 < q.cols → RunAnswer costs q (Err TooMany) p p
+    columns_over p h = declined 11 (Err TooMany) p (λ t. refl) (sym (by true false (eqb (length costs) (q.rows * q.cols)) (le-leb q.rows 64 hr) (lt-leb q.cols 64 h) refl))
 
     module _ (hc : q.cols ≤ 64) where
-      pub size_bad : (p : List ℕ) → (length costs ≡ q.rows * q.cols → ⊥) → RunAnswer costs q Failed p p
-      size_bad p h = declined 10 Failed p (λ t. refl) (sym (by true true false (le-leb q.rows 64 hr) (le-leb q.cols 64 hc) (ne_eqb (length costs) (q.rows * q.cols) h)))
+      pub size_bad : (p : List ℕ) → (length costs ≡ q.rows * q.cols → ⊥) → RunAnswer costs q (Err Failed) p p
+      size_bad p h = declined 10 (Err Failed) p (λ t. refl) (sym (by true true false (le-leb q.rows 64 hr) (le-leb q.cols 64 hc) (ne_eqb (length costs) (q.rows * q.cols) h)))
 
       module _ (size : length costs ≡ q.rows * q.cols) where
         pub checked : run_reply costs q ≡ end_reply X
         checked = by true true true (le-leb q.rows 64 hr) (le-leb q.cols 64 hc) (eq-eqb (length costs) (q.rows * q.cols) size)
 
-        pub run_failed : (p t : List ℕ) (status : ℕ) → (status ≡ 0 → ⊥) → pick_end status t ≡ end_of X → RunAnswer costs q Failed p p
-        run_failed p t status f e = declined 10 Failed p (λ t. refl) (end_refused X status t f e ∙ sym checked)
+        pub run_failed : (p t : List ℕ) (r : Result (Unit {0}) SearchError) → is_err r ≡ true → pick_end r t ≡ end_of X → RunAnswer costs q (Err Failed) p p
+        run_failed p t r f e = declined 10 (Err Failed) p (λ t. refl) (end_refused X r t f e ∙ sym checked)
 
-        pub run_given : (p t : List ℕ) (status : ℕ) → status ≡ 0 → pick_end status t ≡ end_of X → RunAnswer costs q Matched p t
-        run_given p t status z e = let w : given t ≡ run_reply costs q = end_given X status t z e ∙ sym checked in record { is = w; left = ap (λ (x : Reply (List ℕ)). left_in x p) w }
+        pub run_given : (p t : List ℕ) (r : Result (Unit {0}) SearchError) → is_err r ≡ false → pick_end r t ≡ end_of X → RunAnswer costs q (Ok tt) p t
+        run_given p t r z e = let w : given t ≡ run_reply costs q = end_given X r t z e ∙ sym checked in record { is = w; left = ap (λ (x : Reply (List ℕ)). left_in x p) w }

@@ -2,7 +2,7 @@
 use mathlib.Core.Path.{◌≡◌, refl, sym, ap, ◌∙◌, subst}
 use mathlib.Core.Bool.{Bool, false}
 use mathlib.Core.List.{List}
-use Prim.Native.Nat.{ℕ, zero, suc, ◌+◌, ◌≤◌, ◌<◌, zero-le}
+use Prim.Native.Nat.{ℕ, suc, ◌+◌, ◌≤◌, ◌<◌, zero-le}
 use native.Mathlib.Omega.{arith}
 use native.Mathlib.Numerals.{add-one}
 use lib.ListN.{get_or, set, length, replicate}
@@ -13,7 +13,10 @@ use Rattle.kuhn_munkres.specs.Steps.{State, Search, found, stopped, spent, mark,
 use Rattle.kuhn_munkres.specs.Ranges.{Sane}
 use Rattle.kuhn_munkres.proofs.Ranges.{fresh_sane, start_sane, found_sane, settle_sane, rows_stopped, rows_spent}
 use Rattle.hungarian.specs.Passes.{Least}
-use Rattle.hungarian.specs.Ends.{st, went, halted, lost, met, begun, none, pick_out, halts, loses, end_of, pick_end}
+use Rattle.std.specs.Prelude.{Err}
+use Rattle.hungarian.specs.declared.SearchError.{SearchError}
+use Rattle.hungarian.specs.declared.SearchError.TheVariants.{NotFinite, Spent}
+use Rattle.hungarian.specs.Ends.{st, went, halted, lost, met, met_of, begun, none, halts, loses, end_of, pick_end}
 
 -- where a search begins says nothing of delta and j1
 anew : (a : ℕ → ℕ → Float) (n k : ℕ) (u v m : List Float) (p way : List ℕ) (used : List Bool) (j0 : ℕ) (b c : Least Float) → search float a n (suc k) (st u v m p way used j0 b) ≡ search float a n (suc k) (st u v m p way used j0 c)
@@ -111,8 +114,7 @@ module _ (a : ℕ → ℕ → Float) (n : ℕ) where
     unfolding rows leave
     row_loses e = sym (ap end_of (rows_spent float a n (suc k) n (omega arith) (ap (leave float n) (sym runs ∙ lost_is (search float a n (n + 1) (begun u v (set p 0 (k + 1)) way)) e))))
 
-    -- a status that is not 0
-    pub row_ends : (x : ℕ) (u' v' : List Float) (w' p' : List ℕ) (j : ℕ) (end : List ℕ) → (x ≡ 0 → ⊥) → pick_out x u' v' w' p' j ≡ met (search float a n (n + 1) (begun u v (set p 0 (k + 1)) way)) → pick_end x end ≡ end_of (rows float a n n)
-    row_ends zero u' v' w' p' j end h e = absurd (h refl)
-    row_ends (suc zero) u' v' w' p' j end h e = row_halts e
-    row_ends (suc (suc x)) u' v' w' p' j end h e = row_loses e
+    -- a search that ends without a column
+    pub row_ends : (x : SearchError) (u' v' : List Float) (w' p' end : List ℕ) → met_of (Err x) u' v' w' p' ≡ met (search float a n (n + 1) (begun u v (set p 0 (k + 1)) way)) → pick_end (Err x) end ≡ end_of (rows float a n n)
+    row_ends NotFinite u' v' w' p' end e = row_halts e
+    row_ends Spent u' v' w' p' end e = row_loses e

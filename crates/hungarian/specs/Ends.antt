@@ -1,14 +1,15 @@
 -- What a search for a free column and the whole run end with, from the code's arrays and status.
-use Rattle.std.specs.Prelude.{◌≡◌, Bool, false, ◌&&◌, List, ℕ, zero, suc, ◌+◌, ◌*◌, eqb, leb, length, replicate, Float}
+use Rattle.std.specs.Prelude.{◌≡◌, Bool, false, ◌&&◌, List, ℕ, ◌+◌, ◌*◌, eqb, leb, length, replicate, Float, Result, Ok, Err}
 use Rattle.number.specs.Reply.{Reply, refused, given, refuse_unless, left_in}
 use Rattle.kuhn_munkres.specs.Binary64.{float}
 use Rattle.kuhn_munkres.specs.Square.{entry}
 use Rattle.kuhn_munkres.specs.Steps.{State, Search, found, stopped, spent, rows}
 use Rattle.hungarian.specs.Passes.{Least}
 use Rattle.hungarian.specs.Structs.{square_from}
-use Rattle.hungarian.specs.declared.Met.{Met}
-use Rattle.hungarian.specs.declared.Run.{Run}
-use Rattle.hungarian.specs.declared.Run.TheVariants.{Matched, TooMany, Failed}
+use Rattle.hungarian.specs.declared.RunError.{RunError}
+use Rattle.hungarian.specs.declared.RunError.TheVariants.{TooMany, Failed}
+use Rattle.hungarian.specs.declared.SearchError.{SearchError}
+use Rattle.hungarian.specs.declared.SearchError.TheVariants.{NotFinite, Spent}
 use Rattle.hungarian.specs.declared.Shape.{Shape}
 
 -- the definition's state of the code's arrays, with the definition's own minv
@@ -26,13 +27,10 @@ met (found s) = went s.u s.v s.way s.p s.j0
 met stopped = halted
 met spent = lost
 
-abbrev pub pick_out : ℕ → List Float → List Float → List ℕ → List ℕ → ℕ → Out
-pick_out zero u v w p j = went u v w p j
-pick_out (suc zero) u v w p j = halted
-pick_out (suc (suc k)) u v w p j = lost
-
-abbrev pub met_of : Met → List Float → List Float → List ℕ → List ℕ → Out
-met_of r u v w p = pick_out r.status u v w p r.j0
+abbrev pub met_of : Result ℕ SearchError → List Float → List Float → List ℕ → List ℕ → Out
+met_of (Ok j) u v w p = went u v w p j
+met_of (Err NotFinite) u v w p = halted
+met_of (Err Spent) u v w p = lost
 
 abbrev pub none : Least Float
 none = record { delta = float.zer; j1 = 0 }
@@ -51,10 +49,10 @@ end_of (found s) = matched s.p
 end_of stopped = halts
 end_of spent = loses
 
-abbrev pub pick_end : ℕ → List ℕ → End
-pick_end zero p = matched p
-pick_end (suc zero) p = halts
-pick_end (suc (suc k)) p = loses
+abbrev pub pick_end : Result (Unit {0}) SearchError → List ℕ → End
+pick_end (Ok u) p = matched p
+pick_end (Err NotFinite) p = halts
+pick_end (Err Spent) p = loses
 
 -- ---- the call
 -- the row of each column, or 01's number: "10 .. a step not finite"
@@ -70,11 +68,11 @@ run_reply costs q =
     (refuse_unless (eqb (length costs) (q.rows * q.cols)) 10
     (end_reply (rows float (entry float (square_from costs q)) (q.rows + q.cols) (q.rows + q.cols))))
 
-abbrev pub reply_of_run : {A : Type 0} → Run → A → Reply A
-reply_of_run Matched a = given a
-reply_of_run TooMany a = refused 11
-reply_of_run Failed a = refused 10
+abbrev pub reply_of_run : {A : Type 0} → Result (Unit {0}) RunError → A → Reply A
+reply_of_run (Ok u) a = given a
+reply_of_run (Err TooMany) a = refused 11
+reply_of_run (Err Failed) a = refused 10
 
-pub record RunAnswer (costs : List Float) (q : Shape) (r : Run) (before after : List ℕ) : Type 0 where
+pub record RunAnswer (costs : List Float) (q : Shape) (r : Result (Unit {0}) RunError) (before after : List ℕ) : Type 0 where
   pub is : reply_of_run r after ≡ run_reply costs q
   pub left : after ≡ left_in (run_reply costs q) before

@@ -173,19 +173,16 @@ fn choose(minv: &[f64; 129], n: usize) -> Best
     ensures { least_of result ≡ chosen float minv.now n }
 {
     let mut b = Best {
-        delta: 1.0 / 0.0,
+        delta: f64::INFINITY,
         j1: 0,
     };
-    let mut k: usize = 0;
-    while k + 8 <= n {
-        if quiet(minv, k, b.delta) {
-            k += 8;
-            continue;
+    for block in 0..n / 8 {
+        let k = 8 * block;
+        if !quiet(minv, k, b.delta) {
+            b = choose_from(minv, k, k + 8, b);
         }
-        b = choose_from(minv, k, k + 8, b);
-        k += 8;
     }
-    choose_from(minv, k, n, b)
+    choose_from(minv, 8 * (n / 8), n, b)
 }
 
 // The first pass of a scan: the row i0 of the square, stretch by stretch.
@@ -268,16 +265,13 @@ fn pay(
     ensures { pots u.new v.new ≡ paid float used.now p.now delta (pots u.old v.old) (n + 1) }
 {
     let end = n + 1;
-    let mut k: usize = 0;
-    while k + 8 <= end {
-        if free8(used, k) {
-            k += 8;
-            continue;
+    for block in 0..end / 8 {
+        let k = 8 * block;
+        if !free8(used, k) {
+            pay_from(u, v, p, used, k, k + 8, delta);
         }
-        pay_from(u, v, p, used, k, k + 8, delta);
-        k += 8;
     }
-    pay_from(u, v, p, used, k, end, delta);
+    pay_from(u, v, p, used, 8 * (end / 8), end, delta);
 }
 
 // The step by delta.
@@ -297,10 +291,11 @@ fn shift_all(
     lower(minv, n, delta);
 }
 
-#[derive(Clone, Copy)]
-pub struct Met {
-    pub status: usize,
-    pub j0: usize,
+// Why a search ends without a free column: a step that is not finite; no turns left, which does not happen.
+#[derive(Clone, Copy, PartialEq, Eq)]
+pub enum SearchError {
+    NotFinite,
+    Spent,
 }
 
 // Looks for a free column from place 0, where the new row stands. The turns are counted: there are no more than columns.
@@ -311,11 +306,11 @@ fn find_path(
     v: &mut [f64; 129],
     p: &[usize; 129],
     way: &mut [usize; 129],
-) -> Met
+) -> Result<usize, SearchError>
     requires { (q.rows ≤ 64) × (q.cols ≤ 64) × (length costs.now ≡ q.rows * q.cols) × (length way.old ≡ 129) × Sane (q.rows + q.cols) (begun u.old v.old p.now way.old) × (0 < get_or p.now 0 0) }
     ensures { (met_of result u.new v.new way.new p.now ≡ met (search float (entry float (square_from costs.now q)) (q.rows + q.cols) (q.rows + q.cols + 1) (begun u.old v.old p.now way.old))) × (length way.new ≡ 129) }
 {
-    let top = 1.0f64 / 0.0f64;
+    let top = f64::INFINITY;
     let n = q.rows + q.cols;
     let mut minv = [top; 129];
     let mut used = [false; 129];
@@ -324,18 +319,18 @@ fn find_path(
         let i0 = p[j0];
         let ui = u[i0];
         used[j0] = true;
-        minv[j0] = 0.0 / 0.0;
+        minv[j0] = f64::NAN;
         let b = look(costs, q, i0, ui, j0, v, &mut minv, way);
         if !number::float::is_finite(b.delta) {
-            return Met { status: 1, j0 };
+            return Err(SearchError::NotFinite);
         }
         shift_all(u, v, &mut minv, p, &used, n, b.delta);
         j0 = b.j1;
         if p[j0] == 0 {
-            return Met { status: 0, j0 };
+            return Ok(j0);
         }
     }
-    Met { status: 2, j0 }
+    Err(SearchError::Spent)
 }
 
 // Turns the path round: each column on it takes the row of the column before.
@@ -354,8 +349,8 @@ fn walk_back(p: &mut [usize; 129], way: &[usize; 129], n: usize, j: usize)
     }
 }
 
-// All rows, one after the other. 0 and the row of each column; 1 for a step that is not finite.
-fn hungarian_square(costs: &[f64], q: Shape, p: &mut [usize; 129]) -> usize
+// All rows, one after the other: the row of each column.
+fn hungarian_square(costs: &[f64], q: Shape, p: &mut [usize; 129]) -> Result<(), SearchError>
     requires { (q.rows ≤ 64) × (q.cols ≤ 64) × (length costs.now ≡ q.rows * q.cols) }
     ensures { pick_end result p.new ≡ end_of (rows float (entry float (square_from costs.now q)) (q.rows + q.cols) (q.rows + q.cols)) }
 {
@@ -366,40 +361,36 @@ fn hungarian_square(costs: &[f64], q: Shape, p: &mut [usize; 129]) -> usize
     *p = [0usize; 129];
     for k in 0..n {
         p[0] = k + 1;
-        let m = find_path(costs, q, &mut u, &mut v, p, &mut way);
-        if m.status != 0 {
-            return m.status;
-        }
-        walk_back(p, &way, n, m.j0);
+        let j = find_path(costs, q, &mut u, &mut v, p, &mut way)?;
+        walk_back(p, &way, n, j);
     }
-    0
+    Ok(())
 }
 
-// How a run ends: the rows of the columns are given; too many rows or columns; a table of another size, or a step that is not finite.
-#[derive(Clone, Copy)]
-pub enum Run {
-    Matched,
+// Why a run is declined: too many rows or columns; a table of another size, or a step that is not finite.
+#[derive(Clone, Copy, PartialEq, Eq)]
+pub enum RunError {
     TooMany,
     Failed,
 }
 
 // The row of each column of the padded square, both counted from 1, into p; p is left as it was where the call is declined.
-pub fn solve(costs: &[f64], q: Shape, p: &mut [usize; 129]) -> Run
+pub fn solve(costs: &[f64], q: Shape, p: &mut [usize; 129]) -> Result<(), RunError>
     ensures { RunAnswer costs.now q result p.old p.new }
 {
     if q.rows > 64 {
-        return Run::TooMany;
+        return Err(RunError::TooMany);
     }
     if q.cols > 64 {
-        return Run::TooMany;
+        return Err(RunError::TooMany);
     }
     if costs.len() != q.rows * q.cols {
-        return Run::Failed;
+        return Err(RunError::Failed);
     }
     let mut taken = [0usize; 129];
-    if hungarian_square(costs, q, &mut taken) != 0 {
-        return Run::Failed;
+    if hungarian_square(costs, q, &mut taken).is_err() {
+        return Err(RunError::Failed);
     }
     *p = taken;
-    Run::Matched
+    Ok(())
 }

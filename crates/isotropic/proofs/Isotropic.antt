@@ -8,9 +8,9 @@ use native.Mathlib.Omega.{arith}
 use lib.Dec.{T}
 use lib.IntN.{ℤ, pos}
 use borrow.Author.Tests.{ltb-true, ne_eqb}
-use lib.Ieee.{Float, nan, inf, fin, binary64, up, down, unlike, round, add, sub, neg, mul, div, lt, eq, fits, of_bits}
+use lib.Ieee.{Float, nan, inf, fin, binary64, up, down, unlike, round, sub, neg, mul, div, lt, eq, fits, of_bits}
 use lib.Ieee.Scale.{finite}
-use lib.Ieee.Fits.{up_pos, down_pos}
+use lib.Ieee.Fits.{up_pos}
 use Rattle.number.specs.Reply.{Reply, refused, given}
 use Rattle.number.proofs.Zeros.{impossible, none, zero_side}
 use Rattle.number.proofs.Held.{zero_of, zero_round, one_times, zero_times, add_zero_of}
@@ -20,7 +20,7 @@ use Rattle.models.specs.Models.{isotropic}
 use Rattle.finite.specs.Finite.{finite_vector, finite_matrix}
 use Rattle.symmetry.specs.Symmetry.{mirrored, is_symmetric}
 use Rattle.symmetry.proofs.Mirrored.{mirrored_symmetric}
-use Rattle.cholesky.specs.Cholesky.{pivot_root, column_by, columns_from, cholesky}
+use Rattle.cholesky.specs.Cholesky.{column_by, columns_from, cholesky}
 use Rattle.cholesky.proofs.Factors.{pivot_given, pivot_low, column_given, column_refused}
 use Rattle.definite.specs.Definite.{whether_given, factorable, reply_of_found}
 use Rattle.definite.proofs.Found.{last_column, no_factor}

@@ -6,16 +6,16 @@ ghost use Rattle.models.specs.Models.{isotropic};
 ghost use Rattle.math.specs.Linalg.{validated, reply_of_validity};
 
 // Whether two items measured apart from each other, each with this variance, have a covariance.
-pub fn validate_isotropic2(variance: f64) -> math::linalg::Validity
+pub fn validate_isotropic2(variance: f64) -> Result<(), math::linalg::Refusal>
     ensures { reply_of_validity result ≡ validated 2 (isotropic 2 variance) }
 {
     if number::float::is_finite(variance) {
         if variance > 0.0 {
-            math::linalg::Validity::Valid
+            Ok(())
         } else {
-            math::linalg::Validity::Refused(math::linalg::Refusal::NotPositiveDefinite)
+            Err(math::linalg::Refusal::NotPositiveDefinite)
         }
     } else {
-        math::linalg::Validity::Refused(math::linalg::Refusal::NonFiniteValue)
+        Err(math::linalg::Refusal::NonFiniteValue)
     }
 }

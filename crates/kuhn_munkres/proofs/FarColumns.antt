@@ -1,7 +1,7 @@
 -- A far column, which may pair with no row, changes nothing in the pairing: it is taken by no row, and without it the others are taken as before.
+use Rattle.std.specs.Prelude.{None, Option}
 use mathlib.Core.Path.{◌≡◌, refl, sym, ap, ◌∙◌, subst}
 use mathlib.Core.List.{List, [], ◌∷◌, map}
-use mathlib.Core.Option.{Option, none}
 use mathlib.Core.Bool.{Bool, true, false, cond}
 use Prim.Native.Nat.{ℕ, zero, suc}
 use lib.ListN.{length, replicate}
@@ -112,8 +112,8 @@ pub far_columns : (rowCost columnCost : Float) (k : List Bool) (rows : List (Lis
 unfolding pairing labels struck_labels
 far_columns rowCost columnCost k rows takers h e =
     let n = none_left k in
-    let s : Labels = record { of_rows = []; of_columns = replicate (length k) none } in
+    let s : Labels = record { of_rows = []; of_columns = replicate (length k) None } in
     let j = joins_left k zero rows s h n.1 in
     let far = sentinel_of (largest_of (larger_of rowCost columnCost) rows) in
-    let r = groups_left (λ table. solved float (square_of far rowCost columnCost table)) k rows (joins finite zero rows s) (up_from zero rows) (replicate (length k) none) takers j.1 n.1 e in
+    let r = groups_left (λ table. solved float (square_of far rowCost columnCost table)) k rows (joins finite zero rows s) (up_from zero rows) (replicate (length k) None) takers j.1 n.1 e in
     (rw (largest_of_left k (larger_of rowCost columnCost) rows h, up_from_map (left_by k) zero rows, ← n.0) (rw (← j.0) at r.0), r.1)

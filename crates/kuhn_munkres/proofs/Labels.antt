@@ -1,9 +1,9 @@
 -- The labels name groups by their last rows: a label is a row of its own group, and no row of the group is after it. What a row's join does, place by place.
+use Rattle.std.specs.Prelude.{None, Option, Some}
 use mathlib.Core.Path.{◌≡◌, refl, sym, ap, ◌∙◌, subst}
 use mathlib.Core.Logic.{◌⊎◌, inl, inr}
 use mathlib.Core.Bool.{Bool, true, false, cond, true≢false}
 use mathlib.Core.List.{List, [], ◌∷◌, ◌++◌, map}
-use mathlib.Core.Option.{Option, none, some}
 use Prim.Native.Nat.{ℕ, zero, suc, ◌+◌, ◌*◌, ◌≤◌, ◌<◌}
 use native.Mathlib.Decide.{ℕ_discrete}
 use native.Mathlib.Nat.{suc-mul}
@@ -25,18 +25,18 @@ map_at f [] j a b h = absurd (omega arith)
 map_at f (x ∷ l) zero a b h = refl
 map_at f (x ∷ l) (suc j) a b h = map_at f l j a b (omega arith)
 
-pub none_some : {A : Type 0} {x : A} {B : Type 0} → none ≡ some x → B
+pub none_some : {A : Type 0} {x : A} {B : Type 0} → None ≡ Some x → B
 none_some e = absurd (let z : ◌≡◌ {A = ℕ} 0 1 = cc in omega arith)
 
-pub some_same : {A : Type 0} {a b : A} → some a ≡ some b → a ≡ b
+pub some_same : {A : Type 0} {a b : A} → Some a ≡ Some b → a ≡ b
 some_same e = cc
 
-pub some_in : (l : List (Option ℕ)) (j x : ℕ) → get_or l j none ≡ some x → j < length l
+pub some_in : (l : List (Option ℕ)) (j x : ℕ) → get_or l j None ≡ Some x → j < length l
 some_in [] j x e = none_some e
 some_in (o ∷ l) zero x e = omega arith
 some_in (o ∷ l) (suc j) x e = let r = some_in l j x e in omega arith
 
-pub nones_at : (w j : ℕ) → ◌≡◌ {A = Option ℕ} (get_or (replicate w none) j none) none
+pub nones_at : (w j : ℕ) → ◌≡◌ {A = Option ℕ} (get_or (replicate w None) j None) None
 nones_at zero j = refl
 nones_at (suc w) zero = refl
 nones_at (suc w) (suc j) = nones_at w j
@@ -47,7 +47,7 @@ module _ {F : Type 0} (finite : F → Bool) (d : F) (no_cost : finite d ≡ fals
   or_true true c e = refl
   or_true false c e = e
 
-  pub hit_in : (row : List F) (cols : List (Option ℕ)) (j l : ℕ) → finite (get_or row j d) ≡ true → get_or cols j none ≡ some l → any (eqb l) (hits finite row cols) ≡ true
+  pub hit_in : (row : List F) (cols : List (Option ℕ)) (j l : ℕ) → finite (get_or row j d) ≡ true → get_or cols j None ≡ Some l → any (eqb l) (hits finite row cols) ≡ true
   unfolding hits hit any
   hit_in [] cols j l h e = absurd (true≢false (sym h ∙ no_cost))
   hit_in (x ∷ row) [] j l h e = none_some e
@@ -56,13 +56,13 @@ module _ {F : Type 0} (finite : F → Bool) (d : F) (no_cost : finite d ≡ fals
     where
       go : (b : Bool) (p : Option ℕ) → any (eqb l) (hits finite row cols) ≡ true → any (eqb l) (hit b p (hits finite row cols)) ≡ true
       go false p q = q
-      go true none q = q
-      go true (some g) q = or_true (eqb l g) (any (eqb l) (hits finite row cols)) q
+      go true None q = q
+      go true (Some g) q = or_true (eqb l g) (any (eqb l) (hits finite row cols)) q
 
   pub record Touching (row : List F) (cols : List (Option ℕ)) (l : ℕ) : Type 0 where
     pub at : ℕ
     pub allowed : finite (get_or row at d) ≡ true
-    pub label : get_or cols at none ≡ some l
+    pub label : get_or cols at None ≡ Some l
 
   pub hit_out : (row : List F) (cols : List (Option ℕ)) (l : ℕ) → any (eqb l) (hits finite row cols) ≡ true → Touching row cols l
   unfolding hits hit any
@@ -73,14 +73,14 @@ module _ {F : Type 0} (finite : F → Bool) (d : F) (no_cost : finite d ≡ fals
       later : Touching row cols l → Touching (x ∷ row) (o ∷ cols) l
       later t = record { at = suc t.at; allowed = t.allowed; label = t.label }
 
-      first : (b : Bool) (g : ℕ) → finite x ≡ true → o ≡ some g → eqb l g ≡ b → (any (eqb l) (hits finite row cols) ≡ true → Touching row cols l) → cond b true (any (eqb l) (hits finite row cols)) ≡ true → Touching (x ∷ row) (o ∷ cols) l
-      first true g h q r ih e' = record { at = zero; allowed = h; label = q ∙ ap some (sym (eqb-true l g r)) }
+      first : (b : Bool) (g : ℕ) → finite x ≡ true → o ≡ Some g → eqb l g ≡ b → (any (eqb l) (hits finite row cols) ≡ true → Touching row cols l) → cond b true (any (eqb l) (hits finite row cols)) ≡ true → Touching (x ∷ row) (o ∷ cols) l
+      first true g h q r ih e' = record { at = zero; allowed = h; label = q ∙ ap Some (sym (eqb-true l g r)) }
       first false g h q r ih e' = later (ih e')
 
       go : (b : Bool) (p : Option ℕ) → finite x ≡ b → o ≡ p → (any (eqb l) (hits finite row cols) ≡ true → Touching row cols l) → any (eqb l) (hit b p (hits finite row cols)) ≡ true → Touching (x ∷ row) (o ∷ cols) l
       go false p h q ih e' = later (ih e')
-      go true none h q ih e' = later (ih e')
-      go true (some g) h q ih e' = first (eqb l g) g h q refl ih e'
+      go true None h q ih e' = later (ih e')
+      go true (Some g) h q ih e' = first (eqb l g) g h q refl ih e'
 
   -- ---- one row
   pub relabel_is : (hs : List ℕ) (i l : ℕ) → ((any (eqb l) hs ≡ true) × (relabel hs i l ≡ i)) ⊎ ((any (eqb l) hs ≡ false) × (relabel hs i l ≡ l))
@@ -98,8 +98,8 @@ module _ {F : Type 0} (finite : F → Bool) (d : F) (no_cost : finite d ≡ fals
     pub row_low : (x : ℕ) → x < i → get_or s.of_rows x 0 < i
     pub row_up : (x : ℕ) → x < i → x ≤ get_or s.of_rows x 0
     pub row_own : (x : ℕ) → x < i → get_or s.of_rows (get_or s.of_rows x 0) 0 ≡ get_or s.of_rows x 0
-    pub col_low : (j l : ℕ) → get_or s.of_columns j none ≡ some l → l < i
-    pub col_own : (j l : ℕ) → get_or s.of_columns j none ≡ some l → get_or s.of_rows l 0 ≡ l
+    pub col_low : (j l : ℕ) → get_or s.of_columns j None ≡ Some l → l < i
+    pub col_own : (j l : ℕ) → get_or s.of_columns j None ≡ Some l → get_or s.of_rows l 0 ≡ l
 
   module _ (i w : ℕ) (s : Labels) (n : Named i w s) (row : List F) (long : length row ≡ w) where
     abbrev pub hs : List ℕ
@@ -113,13 +113,13 @@ module _ {F : Type 0} (finite : F → Bool) (d : F) (no_cost : finite d ≡ fals
     unfolding join
     row_new = subst (λ (k : ℕ). get_or (map (relabel hs i) s.of_rows ++ (i ∷ [])) k 0 ≡ i) (length-map s.of_rows (relabel hs i) ∙ n.rows_long) (get_or-append_seam (map (relabel hs i) s.of_rows) i [] 0)
 
-    pub col_new : (j : ℕ) → j < w → get_or (join finite i row s).of_columns j none ≡ joined_to finite hs i (get_or row j d) (get_or s.of_columns j none)
+    pub col_new : (j : ℕ) → j < w → get_or (join finite i row s).of_columns j None ≡ joined_to finite hs i (get_or row j d) (get_or s.of_columns j None)
     unfolding join
-    col_new j h = zipped_at (joined_to finite hs i) row s.of_columns j d none none (rw long h) (rw n.cols_long h)
+    col_new j h = zipped_at (joined_to finite hs i) row s.of_columns j d None None (rw long h) (rw n.cols_long h)
 
-    pub col_beyond : (j : ℕ) → w ≤ j → get_or (join finite i row s).of_columns j none ≡ none
+    pub col_beyond : (j : ℕ) → w ≤ j → get_or (join finite i row s).of_columns j None ≡ None
     unfolding join
-    col_beyond j h = get_or-eq_default (zipped (joined_to finite hs i) row s.of_columns) none (rw (zipped_long (joined_to finite hs i) row s.of_columns (long ∙ sym n.cols_long), n.cols_long) h)
+    col_beyond j h = get_or-eq_default (zipped (joined_to finite hs i) row s.of_columns) None (rw (zipped_long (joined_to finite hs i) row s.of_columns (long ∙ sym n.cols_long), n.cols_long) h)
 
     -- a label that stays, or the new row: each is a row that bears its own name
     own : (l : ℕ) → l < i → get_or s.of_rows l 0 ≡ l → (relabel hs i l < suc i) × (get_or (join finite i row s).of_rows (relabel hs i l) 0 ≡ relabel hs i l)
@@ -147,7 +147,7 @@ module _ {F : Type 0} (finite : F → Bool) (d : F) (no_cost : finite d ≡ fals
         long_cols : length (join finite i row s).of_columns ≡ w
         long_cols = unfold join in (zipped_long (joined_to finite hs i) row s.of_columns (long ∙ sym n.cols_long) ∙ n.cols_long)
 
-        j_in : (j l : ℕ) → get_or (join finite i row s).of_columns j none ≡ some l → j < w
+        j_in : (j l : ℕ) → get_or (join finite i row s).of_columns j None ≡ Some l → j < w
         j_in j l e = rw long_cols at (some_in (join finite i row s).of_columns j l e)
 
         low : (x : ℕ) → x < suc i → Dec (x ≡ i) → get_or (join finite i row s).of_rows x 0 < suc i
@@ -166,19 +166,19 @@ module _ {F : Type 0} (finite : F → Bool) (d : F) (no_cost : finite d ≡ fals
         owns x h (yes e) = rw (e, row_new, row_new)
         owns x h (no g) = let q : x < i = omega arith in rw (row_before x q) (own (get_or s.of_rows x 0) (n.row_low x q) (n.row_own x q)).1
 
-        col : (j l : ℕ) → j < w → get_or (join finite i row s).of_columns j none ≡ some l → (l < suc i) × (get_or (join finite i row s).of_rows l 0 ≡ l)
-        col j l h e = go (finite (get_or row j d)) (get_or s.of_columns j none) refl refl (sym (col_new j h) ∙ e)
+        col : (j l : ℕ) → j < w → get_or (join finite i row s).of_columns j None ≡ Some l → (l < suc i) × (get_or (join finite i row s).of_rows l 0 ≡ l)
+        col j l h e = go (finite (get_or row j d)) (get_or s.of_columns j None) refl refl (sym (col_new j h) ∙ e)
           where
-            go : (b : Bool) (o : Option ℕ) → finite (get_or row j d) ≡ b → get_or s.of_columns j none ≡ o → joined_to finite hs i (get_or row j d) (get_or s.of_columns j none) ≡ some l → (l < suc i) × (get_or (join finite i row s).of_rows l 0 ≡ l)
+            go : (b : Bool) (o : Option ℕ) → finite (get_or row j d) ≡ b → get_or s.of_columns j None ≡ o → joined_to finite hs i (get_or row j d) (get_or s.of_columns j None) ≡ Some l → (l < suc i) × (get_or (join finite i row s).of_rows l 0 ≡ l)
             go true o q r z = let a : i ≡ l = some_same (rw q at z) in rw (← a) (omega arith, row_new)
-            go false none q r z = none_some (rw (q, r) at z)
-            go false (some m) q r z = let a : relabel hs i m ≡ l = some_same (rw (q, r) at z) in rw (← a) (own m (n.col_low j m r) (n.col_own j m r))
+            go false None q r z = none_some (rw (q, r) at z)
+            go false (Some m) q r z = let a : relabel hs i m ≡ l = some_same (rw (q, r) at z) in rw (← a) (own m (n.col_low j m r) (n.col_own j m r))
 
   -- ---- all rows
   pub named_alone : (w : ℕ) → Named 0 w (alone finite w)
   named_alone w = record {
     rows_long = refl;
-    cols_long = length-replicate w none;
+    cols_long = length-replicate w None;
     row_low = λ x h. absurd (under x h);
     row_up = λ x h. absurd (under x h);
     row_own = λ x h. absurd (under x h);

@@ -1,6 +1,5 @@
 -- The whole of `linear_assignment`: refusals, sentinel, groups, each group's own square and its steps, pairs and lists.
-use Rattle.std.specs.Prelude.{List, [], ◌∷◌, ◌++◌, map, Bool, true, false, cond, ◌&&◌, ℕ, zero, suc, ◌+◌, ◌*◌, length, get_or, take, drop, replicate, eqb, ltb, leb, Float}
-use Rattle.std.proofs.Math.Option.{Option, none, some}
+use Rattle.std.specs.Prelude.{List, [], ◌∷◌, ◌++◌, map, Bool, true, false, cond, ◌&&◌, ℕ, zero, suc, ◌+◌, ◌*◌, length, get_or, take, drop, replicate, eqb, ltb, leb, Float, None, Option, Some}
 use Rattle.std.specs.Float.{binary64}
 use Rattle.std.specs.Float.Ieee.{add, mul, of_bits}
 use Rattle.std.specs.Float.Ieee.Scale.{finite}
@@ -42,8 +41,8 @@ sentinel_of m = add binary64 (add binary64 m (mul binary64 (larger_of (absolute_
 -- ---- one group, by the columns of its own table: the row that takes each, or none
 -- `rows` counts from 1; a dummy row takes no column
 unfoldable pub taker_of : ℕ → ℕ → Option ℕ
-taker_of n zero = none
-taker_of n (suc i) = cond (ltb i n) (some i) none
+taker_of n zero = None
+taker_of n (suc i) = cond (ltb i n) (Some i) None
 
 -- 01, Assignment (refusals): "10 .. a step not finite". That the turns are never spent is a law (proofs/Ends).
 unfoldable pub takers_in : {N : Type 0} → Square N → Search N → Reply Takers
@@ -63,8 +62,8 @@ square_of far rowCost columnCost table = record { costs = in_one table; rows = l
 
 -- ---- all groups, by the columns of the whole table
 unfoldable pub named : List ℕ → Option ℕ → Option ℕ
-named names none = none
-named names (some i) = some (get_or names i 0)
+named names None = None
+named names (Some i) = Some (get_or names i 0)
 
 abbrev pub same : Bool → Bool
 same b = b
@@ -85,7 +84,7 @@ module _ {F : Type 0} (dense : List (List F) → Reply Takers) where
 unfoldable pub pairing : Float → Float → List (List Float) → ℕ → Reply Takers
 pairing rowCost columnCost rows n =
     let far = sentinel_of (largest_of (larger_of rowCost columnCost) rows) in
-    groups (λ table. solved float (square_of far rowCost columnCost table)) rows (labels finite rows n) (up_from zero rows) (replicate n none)
+    groups (λ table. solved float (square_of far rowCost columnCost table)) rows (labels finite rows n) (up_from zero rows) (replicate n None)
 
 -- ---- the call
 -- 01, Assignment (refusals): "11 over 64 rows or columns; 9 an unmatched cost not finite; 10 table length isn't rows × columns, or a step not finite."
@@ -108,16 +107,16 @@ pub record Pairs : Type 0 where
 
 -- the column, from k on, that row i takes
 unfoldable pub column_of : ℕ → ℕ → Takers → Option ℕ
-column_of i k [] = none
-column_of i k (o ∷ t) = let r = column_of i (suc k) t in cond (is_label i o) (some k) r
+column_of i k [] = None
+column_of i k (o ∷ t) = let r = column_of i (suc k) t in cond (is_label i o) (Some k) r
 
 unfoldable pub pair_at : ℕ → Option ℕ → List Pair → List Pair
-pair_at i none l = l
-pair_at i (some j) l = record { row = i; column = j } ∷ l
+pair_at i None l = l
+pair_at i (Some j) l = record { row = i; column = j } ∷ l
 
 unfoldable pub free_at : ℕ → Option ℕ → List ℕ → List ℕ
-free_at i none l = i ∷ l
-free_at i (some j) l = l
+free_at i None l = i ∷ l
+free_at i (Some j) l = l
 
 -- rows i, i + 1, .., n of them
 unfoldable pub pairs_from : Takers → ℕ → ℕ → List Pair

@@ -1,7 +1,6 @@
 -- The joined groups: rows and columns that allowed pairs link, directly or through others. 01, Assignment: "For all costs the joined groups and the steps of
 -- `hungarian_square` fix which pairing is given." A group is named by a row, so that no column's place is ever a name: the last of its rows.
-use Rattle.std.specs.Prelude.{List, [], ◌∷◌, ◌++◌, map, Bool, true, false, cond, ℕ, zero, suc, replicate, eqb}
-use Rattle.std.proofs.Math.Option.{Option, none, some}
+use Rattle.std.specs.Prelude.{List, [], ◌∷◌, ◌++◌, map, Bool, true, false, cond, ℕ, zero, suc, replicate, eqb, None, Option, Some}
 use Rattle.lists.specs.First.{any}
 use Rattle.lists.specs.Masks.{zipped}
 
@@ -15,13 +14,13 @@ unfoldable pub relabel : List ℕ → ℕ → ℕ → ℕ
 relabel hits i l = cond (any (eqb l) hits) i l
 
 unfoldable pub relabelled : List ℕ → ℕ → Option ℕ → Option ℕ
-relabelled hits i none = none
-relabelled hits i (some l) = some (relabel hits i l)
+relabelled hits i None = None
+relabelled hits i (Some l) = Some (relabel hits i l)
 
 unfoldable pub hit : Bool → Option ℕ → List ℕ → List ℕ
 hit false o l = l
-hit true none l = l
-hit true (some g) l = g ∷ l
+hit true None l = l
+hit true (Some g) l = g ∷ l
 
 module _ {F : Type 0} (finite : F → Bool) where
   -- the groups that a row touches: those of the columns that it may pair with
@@ -31,7 +30,7 @@ module _ {F : Type 0} (finite : F → Bool) where
   hits (x ∷ row) (o ∷ cols) = hit (finite x) o (hits row cols)
 
   unfoldable pub joined_to : List ℕ → ℕ → F → Option ℕ → Option ℕ
-  joined_to hs i x o = cond (finite x) (some i) (relabelled hs i o)
+  joined_to hs i x o = cond (finite x) (Some i) (relabelled hs i o)
 
   -- row i joins all groups that it touches
   unfoldable pub join : ℕ → List F → Labels → Labels
@@ -44,12 +43,12 @@ module _ {F : Type 0} (finite : F → Bool) where
 
   -- no row yet, and each column alone
   abbrev pub alone : ℕ → Labels
-  alone n = record { of_rows = []; of_columns = replicate n none }
+  alone n = record { of_rows = []; of_columns = replicate n None }
 
   -- the groups of a table with n columns
   unfoldable pub labels : List (List F) → ℕ → Labels
   labels rows n = joins zero rows (alone n)
 
 unfoldable pub is_label : ℕ → Option ℕ → Bool
-is_label g none = false
-is_label g (some l) = eqb g l
+is_label g None = false
+is_label g (Some l) = eqb g l

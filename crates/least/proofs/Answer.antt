@@ -1,8 +1,8 @@
 -- The answer of the assignment has the least total on whole costs: each group's square, padding, groups and lists of pairs put together.
+use Rattle.std.specs.Prelude.{None, Option}
 use mathlib.Core.Path.{◌≡◌, refl, sym, ap, ◌∙◌, subst}
 use mathlib.Core.Bool.{Bool, true, false, cond, true≢false}
 use mathlib.Core.List.{List, []}
-use mathlib.Core.Option.{Option, none}
 use Prim.Native.Nat.{ℕ, zero, ◌+◌, ◌*◌, ◌^◌, ◌≤◌, ◌<◌}
 use native.Mathlib.Decide.{dec_lt}
 use native.Mathlib.Omega.{arith}
@@ -106,8 +106,8 @@ module _ (costs : List Float) (n m : ℕ) (rowCost columnCost : Float) (cost : �
   abbrev F : (f : Integer) × WholeValue far f × (natural 1_000_000_000 ≤Z f) × Within largest f
   F = sentinel_whole (largest_of (larger_of rowCost columnCost) R) top_ranged
 
-  takers : (t : List (Option ℕ)) × (groups (λ table. solved float (square_of far rowCost columnCost table)) R (labels finite R m) (up_from zero R) (replicate m none) ≡ given t) × (length t ≡ m)
-      × LeastTakes (allowed_in costs m) cost row column n m (λ j. get_or t j none)
+  takers : (t : List (Option ℕ)) × (groups (λ table. solved float (square_of far rowCost columnCost table)) R (labels finite R m) (up_from zero R) (replicate m None) ≡ given t) × (length t ≡ m)
+      × LeastTakes (allowed_in costs m) cost row column n m (λ j. get_or t j None)
   takers = groups_least costs n m W.rows_few W.columns_few W.size (λ table. solved float (square_of far rowCost columnCost table)) cost row column
       (solves far rowCost columnCost F.0 row column F.1 F.2 F.3 W.row_is W.column_is) W.costs_are
 

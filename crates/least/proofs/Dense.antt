@@ -1,8 +1,8 @@
 -- One group's own table: its padded square has whole entries, and the takers read off the square's rows are those of least weight.
+use Rattle.std.specs.Prelude.{None, Option}
 use mathlib.Core.Path.{◌≡◌, refl, sym, ap, ap₂, ◌∙◌}
 use mathlib.Core.Bool.{Bool, true, false, cond}
 use mathlib.Core.List.{List, [], ◌∷◌, ◌++◌, map}
-use mathlib.Core.Option.{Option, none}
 use Prim.Native.Nat.{ℕ, zero, suc, ◌+◌, ◌-◌, ◌*◌, ◌<◌}
 use native.Mathlib.Decide.{ℕ_discrete}
 use native.Mathlib.Nat.{zero-mul}
@@ -29,10 +29,10 @@ use Rattle.least.proofs.Padding.{padded, taker}
 -- ---- places of a table that stands in one list
 pub one_at : (T : List (List Float)) (c i j : ℕ) → ((k : ℕ) → k < length T → length (get_or T k []) ≡ c) → i < length T → j < c → get_or (in_one T) (i * c + j) nan ≡ get_or (get_or T i []) j nan
 unfolding in_one
-one_at [] c i j w h l = absurd (none i h)
+one_at [] c i j w h l = absurd (None i h)
   where
-    none : (i : ℕ) → i < 0 → ⊥
-    none i h = omega arith
+    None : (i : ℕ) → i < 0 → ⊥
+    None i h = omega arith
 one_at (x ∷ T) c zero j w h l =
     let z : 0 * c + j ≡ j = ap (λ (y : ℕ). y + j) (zero-mul c) ∙ (let q : 0 + j ≡ j = omega arith in q) in
     ap (λ (k : ℕ). get_or (x ++ in_one T) k nan) z ∙ get_or-append x (in_one T) nan j (rw (w 0 (omega arith)) l)
@@ -101,10 +101,10 @@ module _ (T : List (List Float)) (r c : ℕ) (long : length T ≡ r) (wide : (i 
     unfolding own
     own_long = length-map (take c (drop 1 s.p)) (taker_of r) ∙ front_long
 
-    pub own_at : (j : ℕ) → j < c → get_or own j none ≡ taker r p j
+    pub own_at : (j : ℕ) → j < c → get_or own j None ≡ taker r p j
     unfolding own taker_of
     own_at j h =
-        map_at (taker_of r) (take c (drop 1 s.p)) j 0 none (rw front_long h)
+        map_at (taker_of r) (take c (drop 1 s.p)) j 0 None (rw front_long h)
         ∙ ap (taker_of r) (get_or-take c (drop 1 s.p) j 0 h ∙ get_or-drop 1 s.p j 0 ∙ ap (λ (i : ℕ). get_or s.p i 0) (one_plus j) ∙ at j (omega arith))
       where
         one_plus : (j : ℕ) → 1 + j ≡ suc j

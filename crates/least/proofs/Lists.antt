@@ -1,9 +1,9 @@
 -- Lists of pairs, and the row that takes each column: a list's total is the weight of its columns and the row cost of every row. So takers of the least
 -- weight give a list of the least total.
+use Rattle.std.specs.Prelude.{None, Option, Some}
 use mathlib.Core.Path.{◌≡◌, refl, sym, ap, ◌∙◌, subst}
 use mathlib.Core.Bool.{Bool, true, false, cond}
 use mathlib.Core.List.{List, [], ◌∷◌, map}
-use mathlib.Core.Option.{Option, none, some}
 use Prim.Native.Nat.{ℕ, zero, suc, ◌+◌, ◌≤◌, ◌<◌}
 use native.Mathlib.Decide.{ℕ_discrete}
 use native.Mathlib.Omega.{arith}
@@ -34,11 +34,11 @@ module _ {A B : Type 0} (f : A → B) (P : B → Type 0) where
 
 -- ---- the row that a list pairs with column j
 unfoldable pub taker_in : List Pair → ℕ → Option ℕ
-taker_in [] j = none
-taker_in (x ∷ l) j = let rest = taker_in l j in cond (eqb x.column j) (some x.row) rest
+taker_in [] j = None
+taker_in (x ∷ l) j = let rest = taker_in l j in cond (eqb x.column j) (Some x.row) rest
 
 module _ (x : Pair) (l : List Pair) (j : ℕ) where
-  taker_here : x.column ≡ j → taker_in (x ∷ l) j ≡ some x.row
+  taker_here : x.column ≡ j → taker_in (x ∷ l) j ≡ Some x.row
   unfolding taker_in
   taker_here e = rw (eq-eqb x.column j e)
 
@@ -50,29 +50,29 @@ abbrev pair : ℕ → ℕ → Pair
 pair i j = record { row = i; column = j }
 
 -- it is in a pair of the list
-taker_every : (P : Pair → Type 0) (l : List Pair) (i j : ℕ) → Every P l → taker_in l j ≡ some i → P (pair i j)
+taker_every : (P : Pair → Type 0) (l : List Pair) (i j : ℕ) → Every P l → taker_in l j ≡ Some i → P (pair i j)
 unfolding taker_in Every
 taker_every P [] i j h e = none_some e
 taker_every P (x ∷ l) i j h e = go (ℕ_discrete x.column j) (taker_every P l i j h.1)
   where
-    go : Dec (x.column ≡ j) → (taker_in l j ≡ some i → P (pair i j)) → P (pair i j)
+    go : Dec (x.column ≡ j) → (taker_in l j ≡ Some i → P (pair i j)) → P (pair i j)
     go (yes z) ih = let w : x.row ≡ i = some_same (sym (taker_here x l j z) ∙ e) in subst P (λ k. record { row = w k; column = z k }) h.0
     go (no d) ih = ih (sym (taker_there x l j d) ∙ e)
 
-taker_out : (l : List Pair) (j : ℕ) → Every (λ y. j ≡ y → ⊥) (columns_in l) → taker_in l j ≡ none
+taker_out : (l : List Pair) (j : ℕ) → Every (λ y. j ≡ y → ⊥) (columns_in l) → taker_in l j ≡ None
 unfolding taker_in Every
 taker_out [] j h = refl
 taker_out (x ∷ l) j h = taker_there x l j (λ e. h.0 (sym e)) ∙ taker_out l j h.1
 
-taker_once : (l : List Pair) (j k i : ℕ) → Distinct (rows_in l) → taker_in l j ≡ some i → taker_in l k ≡ some i → j ≡ k
+taker_once : (l : List Pair) (j k i : ℕ) → Distinct (rows_in l) → taker_in l j ≡ Some i → taker_in l k ≡ Some i → j ≡ k
 unfolding taker_in Distinct
 taker_once [] j k i D e d = none_some e
 taker_once (x ∷ l) j k i D e d = go (ℕ_discrete x.column j) (ℕ_discrete x.column k) (taker_once l j k i D.1)
   where
-    later : (a b : ℕ) → x.column ≡ a → taker_in (x ∷ l) a ≡ some i → taker_in l b ≡ some i → ⊥
+    later : (a b : ℕ) → x.column ≡ a → taker_in (x ∷ l) a ≡ Some i → taker_in l b ≡ Some i → ⊥
     later a b z q w = taker_every (λ (y : Pair). x.row ≡ y.row → ⊥) l i b (of_map (λ (y : Pair). y.row) (λ y. x.row ≡ y → ⊥) l D.0) w (some_same (sym (taker_here x l a z) ∙ q))
 
-    go : Dec (x.column ≡ j) → Dec (x.column ≡ k) → (taker_in l j ≡ some i → taker_in l k ≡ some i → j ≡ k) → j ≡ k
+    go : Dec (x.column ≡ j) → Dec (x.column ≡ k) → (taker_in l j ≡ Some i → taker_in l k ≡ Some i → j ≡ k) → j ≡ k
     go (yes y) (yes z) ih = sym y ∙ z
     go (yes y) (no z) ih = absurd (later j k y e (sym (taker_there x l k z) ∙ d))
     go (no y) (yes z) ih = absurd (later k j z d (sym (taker_there x l j y) ∙ e))
@@ -111,14 +111,14 @@ module _ (x : ℕ) (l : List ℕ) where
 
 -- ---- the pairs that are read off takers
 module _ (t : List (Option ℕ)) where
-  from_every : (P : Pair → Type 0) (k i : ℕ) → ((a j : ℕ) → i ≤ a → a < i + k → column_of a 0 t ≡ some j → P (pair a j)) → Every P (pairs_from t i k)
+  from_every : (P : Pair → Type 0) (k i : ℕ) → ((a j : ℕ) → i ≤ a → a < i + k → column_of a 0 t ≡ Some j → P (pair a j)) → Every P (pairs_from t i k)
   unfolding Every pairs_from
   from_every P zero i h = tt
   from_every P (suc k) i h = go (column_of i 0 t) refl (from_every P k (suc i) (λ a j l m. h a j (omega arith) (omega arith)))
     where
       go : (o : Option ℕ) → column_of i 0 t ≡ o → Every P (pairs_from t (suc i) k) → Every P (pair_at i o (pairs_from t (suc i) k))
-      go none e ih = unfold pair_at in ih
-      go (some j) e ih = unfold pair_at Every in (h i j (omega arith) (omega arith) e, ih)
+      go None e ih = unfold pair_at in ih
+      go (Some j) e ih = unfold pair_at Every in (h i j (omega arith) (omega arith) e, ih)
 
   from_rows_once : (k i : ℕ) → Distinct (rows_in (pairs_from t i k))
   unfolding Distinct pairs_from
@@ -126,23 +126,23 @@ module _ (t : List (Option ℕ)) where
   from_rows_once (suc k) i = go (column_of i 0 t) (from_rows_once k (suc i))
     where
       go : (o : Option ℕ) → Distinct (rows_in (pairs_from t (suc i) k)) → Distinct (rows_in (pair_at i o (pairs_from t (suc i) k)))
-      go none ih = unfold pair_at in ih
-      go (some j) ih = unfold pair_at Distinct in (to_map (λ (x : Pair). x.row) (λ y. i ≡ y → ⊥) (pairs_from t (suc i) k) (from_every (λ (x : Pair). i ≡ x.row → ⊥) k (suc i) (λ a j l m e z. omega arith)), ih)
+      go None ih = unfold pair_at in ih
+      go (Some j) ih = unfold pair_at Distinct in (to_map (λ (x : Pair). x.row) (λ y. i ≡ y → ⊥) (pairs_from t (suc i) k) (from_every (λ (x : Pair). i ≡ x.row → ⊥) k (suc i) (λ a j l m e z. omega arith)), ih)
 
   from_columns_once : (k i : ℕ) → Distinct (columns_in (pairs_from t i k))
   unfolding Distinct pairs_from
   from_columns_once zero i = tt
   from_columns_once (suc k) i = go (column_of i 0 t) refl (from_columns_once k (suc i))
     where
-      other : (j a b : ℕ) → column_of i 0 t ≡ some j → suc i ≤ a → column_of a 0 t ≡ some b → j ≡ b → ⊥
-      other j a b e l d z = let w : i ≡ a = some_same (sym (column_takes t i j e) ∙ ap (λ (x : ℕ). get_or t x none) z ∙ column_takes t a b d) in omega arith
+      other : (j a b : ℕ) → column_of i 0 t ≡ Some j → suc i ≤ a → column_of a 0 t ≡ Some b → j ≡ b → ⊥
+      other j a b e l d z = let w : i ≡ a = some_same (sym (column_takes t i j e) ∙ ap (λ (x : ℕ). get_or t x None) z ∙ column_takes t a b d) in omega arith
 
       go : (o : Option ℕ) → column_of i 0 t ≡ o → Distinct (columns_in (pairs_from t (suc i) k)) → Distinct (columns_in (pair_at i o (pairs_from t (suc i) k)))
-      go none e ih = unfold pair_at in ih
-      go (some j) e ih = unfold pair_at Distinct in (to_map (λ (x : Pair). x.column) (λ y. j ≡ y → ⊥) (pairs_from t (suc i) k) (from_every (λ (x : Pair). j ≡ x.column → ⊥) k (suc i) (λ a b l m d. other j a b e l d)), ih)
+      go None e ih = unfold pair_at in ih
+      go (Some j) e ih = unfold pair_at Distinct in (to_map (λ (x : Pair). x.column) (λ y. j ≡ y → ⊥) (pairs_from t (suc i) k) (from_every (λ (x : Pair). j ≡ x.column → ⊥) k (suc i) (λ a b l m d. other j a b e l d)), ih)
 
   -- a row that takes a column is in its pair
-  from_found : (k a i j : ℕ) → a ≤ i → i < a + k → column_of i 0 t ≡ some j → taker_in (pairs_from t a k) j ≡ none → ⊥
+  from_found : (k a i j : ℕ) → a ≤ i → i < a + k → column_of i 0 t ≡ Some j → taker_in (pairs_from t a k) j ≡ None → ⊥
   unfolding pairs_from
   from_found zero a i j h l e = absurd (omega arith)
   from_found (suc k) a i j h l e = go (column_of a 0 t) refl (pairs_from t (suc a) k) (λ m. from_found k (suc a) i j m (omega arith) e)
@@ -150,14 +150,14 @@ module _ (t : List (Option ℕ)) where
       after : (a ≡ i → ⊥) → suc a ≤ i
       after d = omega arith
 
-      from_i : {o : Option ℕ} → column_of a 0 t ≡ o → a ≡ i → o ≡ some j
+      from_i : {o : Option ℕ} → column_of a 0 t ≡ o → a ≡ i → o ≡ Some j
       from_i q z = sym q ∙ ap (λ (x : ℕ). column_of x 0 t) z ∙ e
 
-      go : (o : Option ℕ) → column_of a 0 t ≡ o → (rest : List Pair) → (suc a ≤ i → taker_in rest j ≡ none → ⊥) → taker_in (pair_at a o rest) j ≡ none → ⊥
-      go none q rest ih f = ih (after (λ z. none_some (from_i q z))) (unfold pair_at in f)
-      go (some b) q rest ih f = by (ℕ_discrete b j) (unfold pair_at in f)
+      go : (o : Option ℕ) → column_of a 0 t ≡ o → (rest : List Pair) → (suc a ≤ i → taker_in rest j ≡ None → ⊥) → taker_in (pair_at a o rest) j ≡ None → ⊥
+      go None q rest ih f = ih (after (λ z. none_some (from_i q z))) (unfold pair_at in f)
+      go (Some b) q rest ih f = by (ℕ_discrete b j) (unfold pair_at in f)
         where
-          by : Dec (b ≡ j) → taker_in (pair a b ∷ rest) j ≡ none → ⊥
+          by : Dec (b ≡ j) → taker_in (pair a b ∷ rest) j ≡ None → ⊥
           by (yes w) g = none_some (sym g ∙ taker_here (pair a b) rest j w)
           by (no w) g = ih (after (λ z. w (some_same (from_i q z)))) (sym (taker_there (pair a b) rest j w) ∙ g)
 
@@ -187,11 +187,11 @@ module _ (allowed : ℕ → ℕ → Bool) (cost : ℕ → ℕ → Integer) (row 
   pub list_total : (l : List Pair) → Pairing allowed n m l → total cost row column n m l ≈ weight cost row column (taker_in l) m +Z times n row
   list_total l p = total_is l p.rows_below p.columns_below p.rows_once p.columns_once
 
-  module _ (t : List (Option ℕ)) (long : length t ≡ m) (T : Takes allowed n m (λ j. get_or t j none)) where
-    in_range : (j i : ℕ) → get_or t j none ≡ some i → j < m
+  module _ (t : List (Option ℕ)) (long : length t ≡ m) (T : Takes allowed n m (λ j. get_or t j None)) where
+    in_range : (j i : ℕ) → get_or t j None ≡ Some i → j < m
     in_range j i e = rw long at (some_in t j i e)
 
-    once : (j k i : ℕ) → get_or t j none ≡ some i → get_or t k none ≡ some i → j ≡ k
+    once : (j k i : ℕ) → get_or t j None ≡ Some i → get_or t k None ≡ Some i → j ≡ k
     once j k i e d = T.once j k i (in_range j i e) (in_range k i d) e d
 
     pub pairs_pairing : Pairing allowed n m (pairs_of n t).pairs
@@ -207,20 +207,20 @@ module _ (allowed : ℕ → ℕ → Bool) (cost : ℕ → ℕ → Integer) (row 
         }
 
     -- the row that the pairs give a column is the one that takes it
-    pub pairs_taker : (j : ℕ) → taker_in (pairs_of n t).pairs j ≡ get_or t j none
+    pub pairs_taker : (j : ℕ) → taker_in (pairs_of n t).pairs j ≡ get_or t j None
     unfolding pairs_of
-    pairs_taker j = go (taker_in (pairs_from t 0 n) j) (get_or t j none) refl refl
+    pairs_taker j = go (taker_in (pairs_from t 0 n) j) (get_or t j None) refl refl
       where
-        go : (o q : Option ℕ) → taker_in (pairs_from t 0 n) j ≡ o → get_or t j none ≡ q → taker_in (pairs_from t 0 n) j ≡ get_or t j none
-        go (some i) q e d = e ∙ sym (taker_every (λ (x : Pair). get_or t x.column none ≡ some x.row) (pairs_from t 0 n) i j (from_every t (λ (x : Pair). get_or t x.column none ≡ some x.row) n 0 (λ a b k l. column_takes t a b)) e)
-        go none none e d = e ∙ sym d
-        go none (some i) e d = absurd (let h = T.row_in_lem j i (in_range j i d) d in from_found t n 0 i j (omega arith) (omega arith) (column_is t once i j d) e)
+        go : (o q : Option ℕ) → taker_in (pairs_from t 0 n) j ≡ o → get_or t j None ≡ q → taker_in (pairs_from t 0 n) j ≡ get_or t j None
+        go (Some i) q e d = e ∙ sym (taker_every (λ (x : Pair). get_or t x.column None ≡ Some x.row) (pairs_from t 0 n) i j (from_every t (λ (x : Pair). get_or t x.column None ≡ Some x.row) n 0 (λ a b k l. column_takes t a b)) e)
+        go None None e d = e ∙ sym d
+        go None (Some i) e d = absurd (let h = T.row_in_lem j i (in_range j i d) d in from_found t n 0 i j (omega arith) (omega arith) (column_is t once i j d) e)
 
-    pub pairs_weight : weight cost row column (taker_in (pairs_of n t).pairs) m ≈ weight cost row column (λ j. get_or t j none) m
-    pairs_weight = sum_same (λ j. weight_of cost row column j (taker_in (pairs_of n t).pairs j)) (λ j. weight_of cost row column j (get_or t j none)) m (λ j l. rw (pairs_taker j) (omega arith))
+    pub pairs_weight : weight cost row column (taker_in (pairs_of n t).pairs) m ≈ weight cost row column (λ j. get_or t j None) m
+    pairs_weight = sum_same (λ j. weight_of cost row column j (taker_in (pairs_of n t).pairs j)) (λ j. weight_of cost row column j (get_or t j None)) m (λ j l. rw (pairs_taker j) (omega arith))
 
   -- takers of the least weight give pairs of the least total
-  pub least_pairs : (t : List (Option ℕ)) → length t ≡ m → LeastTakes allowed cost row column n m (λ j. get_or t j none)
+  pub least_pairs : (t : List (Option ℕ)) → length t ≡ m → LeastTakes allowed cost row column n m (λ j. get_or t j None)
       → Pairing allowed n m (pairs_of n t).pairs × ((other : List Pair) → Pairing allowed n m other → total cost row column n m (pairs_of n t).pairs ≤Z total cost row column n m other)
   least_pairs t long L = (mine, below)
     where

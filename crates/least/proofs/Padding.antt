@@ -1,9 +1,9 @@
 -- The padded square of a table in integers: a least assignment of the square is a least pairing of the table. Each row below r is met once by an assignment,
 -- so the row cost of every row can be taken off the entries: what is left of an entry is then the weight of its column.
+use Rattle.std.specs.Prelude.{None, Option, Some}
 use mathlib.Core.Path.{◌≡◌, refl, sym, ap, ◌∙◌, subst}
 use mathlib.Core.Logic.{◌⊎◌, inl, inr}
 use mathlib.Core.Bool.{Bool, true, false, cond}
-use mathlib.Core.Option.{Option, none, some}
 use Prim.Native.Nat.{ℕ, zero, suc, ◌+◌, ◌-◌, ◌*◌, ◌≤◌, ◌<◌}
 use native.Mathlib.Decide.{ℕ_discrete, dec_lt}
 use native.Mathlib.Omega.{arith}
@@ -41,13 +41,13 @@ module _ (f : ℕ → Integer) where
 
 -- a taker as a number, so that a row's column can be looked for
 place : Option ℕ → ℕ
-place none = 0
-place (some i) = suc i
+place None = 0
+place (Some i) = suc i
 
-place_is : (o : Option ℕ) (i : ℕ) → place o ≡ suc i → o ≡ some i
+place_is : (o : Option ℕ) (i : ℕ) → place o ≡ suc i → o ≡ Some i
 unfolding place
-place_is none i e = absurd (omega arith)
-place_is (some x) i e = let z : x ≡ i = omega arith in ap some z
+place_is None i e = absurd (omega arith)
+place_is (Some x) i e = let z : x ≡ i = omega arith in ap Some z
 
 -- the row of the table that column j takes under p, if it takes one
 abbrev pub taker : ℕ → (ℕ → ℕ) → ℕ → Option ℕ
@@ -122,10 +122,10 @@ module _ (r c : ℕ) (allowed : ℕ → ℕ → Bool) (cost : ℕ → ℕ → In
   module _ (t : ℕ → Option ℕ) where
     -- x is the row of column k: a column is with its row, or with its own dummy; the dummy column of a row is with that row, or with the dummy of its column
     data At (k x : ℕ) : Type 0 where
-      with_row : k < c → t k ≡ some x → At k x
-      left_column : k < c → t k ≡ none → x ≡ r + k → At k x
-      spare : (i j : ℕ) → k ≡ c + i → j < c → t j ≡ some i → x ≡ r + j → At k x
-      left_row : k ≡ c + x → ((j : ℕ) → j < c → t j ≡ some x → ⊥) → At k x
+      with_row : k < c → t k ≡ Some x → At k x
+      left_column : k < c → t k ≡ None → x ≡ r + k → At k x
+      spare : (i j : ℕ) → k ≡ c + i → j < c → t j ≡ Some i → x ≡ r + j → At k x
+      left_row : k ≡ c + x → ((j : ℕ) → j < c → t j ≡ Some x → ⊥) → At k x
 
     placed : (k : ℕ) → (x : ℕ) × At k x
     placed k = go (dec_lt k c) (t k) refl
@@ -135,8 +135,8 @@ module _ (r c : ℕ) (allowed : ℕ → ℕ → Bool) (cost : ℕ → ℕ → In
         dummy h (inr f) = (k - c, left_row (omega arith) (λ j l e. f j l (ap place e ∙ (unfold place in refl))))
 
         go : Dec (k < c) → (o : Option ℕ) → t k ≡ o → (x : ℕ) × At k x
-        go (yes h) none e = (r + k, left_column h e refl)
-        go (yes h) (some i) e = (i, with_row h e)
+        go (yes h) None e = (r + k, left_column h e refl)
+        go (yes h) (Some i) e = (i, with_row h e)
         go (no h) o e = dummy (omega arith) (hit? (λ j. place (t j)) c (suc (k - c)))
 
     pad : ℕ → ℕ
@@ -153,7 +153,7 @@ module _ (r c : ℕ) (allowed : ℕ → ℕ → Bool) (cost : ℕ → ℕ → In
       at_in l (spare i j z h e y) = omega arith
       at_in l (left_row z f) = omega arith
 
-      both : {k j i : ℕ} → k ≡ j → t k ≡ none → t j ≡ some i → ⊥
+      both : {k j i : ℕ} → k ≡ j → t k ≡ None → t j ≡ Some i → ⊥
       both z e d = none_some (sym e ∙ ap t z ∙ d)
 
       at_once : {j k x : ℕ} → j < r + c → k < r + c → At j x → At k x → j ≡ k
@@ -197,7 +197,7 @@ module _ (r c : ℕ) (allowed : ℕ → ℕ → Bool) (cost : ℕ → ℕ → In
           omega arith
 
   -- no pair at all
-  apart : Takes allowed r c (λ j. none)
+  apart : Takes allowed r c (λ j. None)
   apart = record { row_in_lem = λ j i h e. none_some e; may = λ j i h e. none_some e; once = λ j k i h l e d. none_some e }
 
   -- ---- entries in range, and a sentinel above all that they can make up
@@ -215,10 +215,10 @@ module _ (r c : ℕ) (allowed : ℕ → ℕ → Bool) (cost : ℕ → ℕ → In
       -- with the sentinel the total would be above the total of no pair at all
       no_far : (k : ℕ) → k < r + c → padded (p k) k ≡ far → ⊥
       no_far k h e =
-          let q = pad (λ j. none) in
+          let q = pad (λ j. None) in
           let a = sum_far (λ j. padded (p j) j) (r + c) k h (λ j l. entry_low (p j) j) (rw e is_far_lem) in
-          let b = sum_high (λ j. padded (q j) j) (r + c) (λ j l. (plain_near (at_plain (λ j. none) apart l (pad_at (λ j. none) j))).0) in
-          let d = least q (pad_inj (λ j. none) apart) in
+          let b = sum_high (λ j. padded (q j) j) (r + c) (λ j l. (plain_near (at_plain (λ j. None) apart l (pad_at (λ j. None) j))).0) in
+          let d = least q (pad_inj (λ j. None) apart) in
           omega arith
 
       all_plain : (j : ℕ) → j < r + c → Plain (p j) j

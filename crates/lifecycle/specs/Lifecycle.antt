@@ -1,21 +1,17 @@
 -- The life of a track over integer times. 01, Lifecycle; where it is silent, the Rust's lifecycle.rs.
-use Rattle.std.specs.Prelude.{ℕ, max, min, ◌+◌, ◌-◌, ◌^◌, cond, leb, ℤ}
+use Rattle.std.specs.Prelude.{ℕ, max, min, ◌+◌, ◌-◌, ◌^◌, cond, leb, ℤ, None, Option, Some}
 use Rattle.std.specs.Int.Signed.{lt_z}
 use Rattle.number.specs.Time.{age_of, same_time}
 use Rattle.lifecycle.specs.declared.TrackLifecycleState.{TrackLifecycleState}
 use Rattle.lifecycle.specs.declared.TrackLifecycleState.TheVariants.{Tentative, Confirmed, Lost, Deleted}
-use Rattle.lifecycle.specs.declared.Observation.{Observation}
-use Rattle.lifecycle.specs.declared.Observation.TheVariants.{Never, At}
 use Rattle.lifecycle.specs.declared.TrackLifecycle.{TrackLifecycle}
 use Rattle.lifecycle.specs.declared.LifecycleConfig.{LifecycleConfig}
 use Rattle.lifecycle.specs.declared.Verdict.{Verdict}
 use Rattle.lifecycle.specs.declared.Verdict.TheVariants as verdict
-use Rattle.lifecycle.specs.declared.Continued.{Continued}
-use Rattle.lifecycle.specs.declared.Continued.TheVariants as continued
 use Rattle.lifecycle.specs.declared.AgedLifecycle.{AgedLifecycle}
 
 abbrev pub new_of : ℤ → TrackLifecycle
-new_of t = record { state = Tentative; created_at = t; last_observation = Never; last_counted = Never; observation_times = 0 }
+new_of t = record { state = Tentative; created_at = t; last_observation = None; last_counted = None; observation_times = 0 }
 
 abbrev pub with_state : TrackLifecycleState → TrackLifecycle → TrackLifecycle
 with_state s l =
@@ -27,9 +23,9 @@ with_state s l =
 abbrev pub more : ℕ → ℕ
 more n = min (n + 1) (2 ^ 32 - 1)
 
-unfoldable pub counted_of : Observation → ℤ → ℕ → ℕ
-counted_of Never time n = more n
-counted_of (At t) time n = cond (same_time t time) n (more n)
+unfoldable pub counted_of : Option ℤ → ℤ → ℕ → ℕ
+counted_of None time n = more n
+counted_of (Some t) time n = cond (same_time t time) n (more n)
 
 -- a tentative life seen at enough times is confirmed
 unfoldable pub matured : TrackLifecycleState → ℕ → ℕ → TrackLifecycleState
@@ -50,8 +46,8 @@ registered_of l time c =
     record {
       state = observed l.state (counted_of l.last_counted time l.observation_times) c.confirm_min_observation_times;
       created_at = l.created_at;
-      last_observation = At time;
-      last_counted = At time;
+      last_observation = Some time;
+      last_counted = Some time;
       observation_times = counted_of l.last_counted time l.observation_times;
     }
 
@@ -69,9 +65,9 @@ credited_of l n c =
 -- ---- time
 
 -- "Age is now minus last observation (or creation)"
-abbrev pub latest : Observation → ℤ → ℤ
-latest Never t = t
-latest (At s) t = s
+abbrev pub latest : Option ℤ → ℤ → ℤ
+latest None t = t
+latest (Some s) t = s
 
 abbrev pub reference_of : TrackLifecycle → ℤ
 reference_of l = latest l.last_observation l.created_at
@@ -101,9 +97,9 @@ aged_of l now c =
       verdict = verdict_of (settled c (age_of now (reference_of l)) l.state);
     }
 
-abbrev pub kept_if : Verdict → TrackLifecycle → Continued
-kept_if verdict.Kept l = continued.Kept l
-kept_if verdict.Dropped l = continued.Dropped
+abbrev pub kept_if : Verdict → TrackLifecycle → Option TrackLifecycle
+kept_if verdict.Kept l = Some l
+kept_if verdict.Dropped l = None
 
-unfoldable pub advanced_of : TrackLifecycle → ℤ → LifecycleConfig → Continued
+unfoldable pub advanced_of : TrackLifecycle → ℤ → LifecycleConfig → Option TrackLifecycle
 advanced_of l now c = kept_if (aged_of l now c).verdict (aged_of l now c).lifecycle

@@ -1,5 +1,5 @@
 -- The bounded list of sensors that contributed to a track. 01: "16 contributing sensors"; the Rust's record_sensor of tracker/mod.rs.
-use Rattle.std.specs.Prelude.{ℕ, ◌+◌, Bool, cond, ◌&&◌, List, [], ◌∷◌, ◌++◌, ltb, leb, eqb, length, take, drop}
+use Rattle.std.specs.Prelude.{ℕ, Bool, cond, ◌&&◌, List, [], ◌∷◌, ◌++◌, ltb, leb, eqb, length, take, drop}
 use Rattle.lists.specs.Lay.{lay}
 use Rattle.lists.specs.First.{any}
 use Rattle.lifecycle.specs.declared.sensors.Sensors.{Sensors}

@@ -1,8 +1,8 @@
 // The life of a track, by elapsed time and distinct observation times alone, and the sensors that contributed to it.
 #![tactic(auto)]
 
-ghost use Rattle.std.specs.Prelude.{◌≡◌, max};
-ghost use Rattle.lifecycle.specs.Lifecycle.{new_of, with_state, counted_of, matured, observed, registered_of, credited_of, reference_of, settled, verdict_of, aged_of, advanced_of};
+ghost use Rattle.std.specs.Prelude.{◌≡◌};
+ghost use Rattle.lifecycle.specs.Lifecycle.{new_of, counted_of, matured, observed, registered_of, credited_of, reference_of, settled, verdict_of, aged_of, advanced_of};
 
 pub mod sensors;
 
@@ -14,19 +14,12 @@ pub enum TrackLifecycleState {
     Deleted,
 }
 
-// A time that may not have come yet.
-#[derive(Clone, Copy)]
-pub enum Observation {
-    Never,
-    At(i64),
-}
-
 #[derive(Clone, Copy)]
 pub struct TrackLifecycle {
     pub state: TrackLifecycleState,
     pub created_at: i64,
-    pub last_observation: Observation,
-    pub last_counted: Observation,
+    pub last_observation: Option<i64>,
+    pub last_counted: Option<i64>,
     pub observation_times: u32,
 }
 
@@ -38,13 +31,6 @@ pub struct LifecycleConfig {
     pub tentative_timeout_ns: i64,
     pub confirmed_to_lost_ns: i64,
     pub lost_to_delete_ns: i64,
-}
-
-// What becomes of a track when time moves on.
-#[derive(Clone, Copy)]
-pub enum Continued {
-    Kept(TrackLifecycle),
-    Dropped,
 }
 
 #[derive(Clone, Copy)]
@@ -68,34 +54,20 @@ impl TrackLifecycle {
         TrackLifecycle {
             state: TrackLifecycleState::Tentative,
             created_at,
-            last_observation: Observation::Never,
-            last_counted: Observation::Never,
+            last_observation: None,
+            last_counted: None,
             observation_times: 0,
         }
     }
 }
 
-fn with_state(l: TrackLifecycle, state: TrackLifecycleState) -> TrackLifecycle
-    ensures { result ≡ with_state state l }
-{
-    let last_observation = l.last_observation;
-    let last_counted = l.last_counted;
-    TrackLifecycle {
-        state,
-        created_at: l.created_at,
-        last_observation,
-        last_counted,
-        observation_times: l.observation_times,
-    }
-}
-
 // The count after an observation at `time`.
-fn counted(last: Observation, time: i64, count: u32) -> u32
+fn counted(last: Option<i64>, time: i64, count: u32) -> u32
     ensures { result ≡ counted_of last time count }
 {
     match last {
-        Observation::Never => number::time::next_count(count),
-        Observation::At(t) => {
+        None => number::time::next_count(count),
+        Some(t) => {
             if t == time {
                 count
             } else {
@@ -114,12 +86,10 @@ fn mature(state: TrackLifecycleState, count: u32, enough: u32) -> TrackLifecycle
             if enough <= count {
                 TrackLifecycleState::Confirmed
             } else {
-                TrackLifecycleState::Tentative
+                state
             }
         }
-        TrackLifecycleState::Confirmed => TrackLifecycleState::Confirmed,
-        TrackLifecycleState::Lost => TrackLifecycleState::Lost,
-        TrackLifecycleState::Deleted => TrackLifecycleState::Deleted,
+        other => other,
     }
 }
 
@@ -129,9 +99,8 @@ fn observe(state: TrackLifecycleState, count: u32, enough: u32) -> TrackLifecycl
 {
     match state {
         TrackLifecycleState::Tentative => mature(state, count, enough),
-        TrackLifecycleState::Confirmed => TrackLifecycleState::Confirmed,
         TrackLifecycleState::Lost => TrackLifecycleState::Confirmed,
-        TrackLifecycleState::Deleted => TrackLifecycleState::Deleted,
+        other => other,
     }
 }
 
@@ -139,15 +108,13 @@ fn observe(state: TrackLifecycleState, count: u32, enough: u32) -> TrackLifecycl
 pub fn registered(l: TrackLifecycle, time: i64, config: LifecycleConfig) -> TrackLifecycle
     ensures { result ≡ registered_of l time config }
 {
-    let last = l.last_counted;
-    let state = l.state;
-    let count = counted(last, time, l.observation_times);
+    let count = counted(l.last_counted, time, l.observation_times);
     TrackLifecycle {
-        state: observe(state, count, config.confirm_min_observation_times),
-        created_at: l.created_at,
-        last_observation: Observation::At(time),
-        last_counted: Observation::At(time),
+        state: observe(l.state, count, config.confirm_min_observation_times),
+        last_observation: Some(time),
+        last_counted: Some(time),
         observation_times: count,
+        ..l
     }
 }
 
@@ -155,23 +122,12 @@ pub fn registered(l: TrackLifecycle, time: i64, config: LifecycleConfig) -> Trac
 pub fn credited(l: TrackLifecycle, count: u32, config: LifecycleConfig) -> TrackLifecycle
     ensures { result ≡ credited_of l count config }
 {
-    let state = l.state;
-    let last_observation = l.last_observation;
-    let last_counted = l.last_counted;
-    let times = larger_count(l.observation_times, count);
+    let times = l.observation_times.max(count);
     TrackLifecycle {
-        state: mature(state, times, config.confirm_min_observation_times),
-        created_at: l.created_at,
-        last_observation,
-        last_counted,
+        state: mature(l.state, times, config.confirm_min_observation_times),
         observation_times: times,
+        ..l
     }
-}
-
-fn larger_count(a: u32, b: u32) -> u32
-    ensures { result ≡ max a b }
-{
-    if a < b { b } else { a }
 }
 
 // The time that ages count from.
@@ -180,8 +136,8 @@ fn reference(l: TrackLifecycle) -> i64
 {
     let seen = l.last_observation;
     match seen {
-        Observation::Never => l.created_at,
-        Observation::At(t) => t,
+        None => l.created_at,
+        Some(t) => t,
     }
 }
 
@@ -223,10 +179,8 @@ fn verdict_of(state: TrackLifecycleState) -> Verdict
     ensures { result ≡ verdict_of state }
 {
     match state {
-        TrackLifecycleState::Tentative => Verdict::Kept,
-        TrackLifecycleState::Confirmed => Verdict::Kept,
-        TrackLifecycleState::Lost => Verdict::Kept,
         TrackLifecycleState::Deleted => Verdict::Dropped,
+        _ => Verdict::Kept,
     }
 }
 
@@ -234,24 +188,23 @@ fn verdict_of(state: TrackLifecycleState) -> Verdict
 pub fn aged(l: TrackLifecycle, now: i64, config: LifecycleConfig) -> AgedLifecycle
     ensures { result ≡ aged_of l now config }
 {
-    let state = l.state;
-    let next = settle(state, number::time::age(now, reference(l)), config);
+    let state = settle(l.state, number::time::age(now, reference(l)), config);
     AgedLifecycle {
-        lifecycle: with_state(l, next),
-        verdict: verdict_of(next),
+        lifecycle: TrackLifecycle { state, ..l },
+        verdict: verdict_of(state),
     }
 }
 
 // The life at the time `now`, if it goes on.
-pub fn advanced(l: TrackLifecycle, now: i64, config: LifecycleConfig) -> Continued
+pub fn advanced(l: TrackLifecycle, now: i64, config: LifecycleConfig) -> Option<TrackLifecycle>
     ensures { result ≡ advanced_of l now config }
 {
     let a = aged(l, now, config);
     let lifecycle = a.lifecycle;
     let verdict = a.verdict;
     match verdict {
-        Verdict::Kept => Continued::Kept(lifecycle),
-        Verdict::Dropped => Continued::Dropped,
+        Verdict::Kept => Some(lifecycle),
+        Verdict::Dropped => None,
     }
 }
 

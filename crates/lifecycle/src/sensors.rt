@@ -11,23 +11,13 @@ pub struct Sensors {
     pub count: usize,
 }
 
-// How many of the places are taken, whatever the count says.
-fn held(count: usize) -> usize
-    ensures { result ≡ min count 16 }
-{
-    if count < 16 { count } else { 16 }
-}
-
 // The limit that holds: one from 1 to 16 itself, 16 for any other.
 fn bound(limit: usize) -> usize
     ensures { result ≡ bound_of limit }
 {
-    if limit == 0 {
-        16
-    } else if limit < 16 {
-        limit
-    } else {
-        16
+    match limit {
+        1..=15 => limit,
+        _ => 16,
     }
 }
 
@@ -36,14 +26,7 @@ fn contains(ids: [u32; 16], n: usize, sensor: u32) -> bool
     requires { n ≤ 16 }
     ensures { result ≡ any (is sensor) (take n ids) }
 {
-    let mut i: usize = 0;
-    while i < n {
-        if ids[i] == sensor {
-            return true;
-        }
-        i += 1;
-    }
-    false
+    ids[..n].contains(&sensor)
 }
 
 // The first of n forgotten, the others moved down and the sensor put behind them.
@@ -51,11 +34,7 @@ fn replace_oldest(mut ids: [u32; 16], n: usize, sensor: u32) -> [u32; 16]
     requires { (0 < n) × (n ≤ 16) }
     ensures { result ≡ lay (drop 1 (take n ids) ++ (sensor ∷ [])) ids }
 {
-    let mut i: usize = 0;
-    while i < n - 1 {
-        ids[i] = ids[i + 1];
-        i += 1;
-    }
+    ids.copy_within(1..n, 0);
     ids[n - 1] = sensor;
     ids
 }
@@ -65,7 +44,8 @@ pub fn record_sensor(s: Sensors, sensor: u32, limit: usize) -> Sensors
     ensures { result ≡ over s (recorded_of (sensors_of s) sensor limit) }
 {
     let mut ids = s.ids;
-    let n = held(s.count);
+    // How many of the places are taken, whatever the count says.
+    let n = s.count.min(16);
     if contains(ids, n, sensor) {
         Sensors { ids, count: n }
     } else if bound(limit) <= n {

@@ -1,29 +1,28 @@
 -- The whole line: its shape, what is decided, and what is written.
 use mathlib.Core.Path.{◌≡◌, refl, ap, sym, ◌∙◌}
 use mathlib.Core.Bool.{Bool, true, false, ◌&&◌}
-use mathlib.Core.Option.{Option, none, some}
 use mathlib.Core.List.{List, [], ◌∷◌}
-use Prim.Native.Nat.{ℕ, ◌+◌, ◌-◌, ◌*◌, ◌<◌, ◌≤◌}
-use native.Mathlib.Numerals.{add-one}
+use Prim.Native.Nat.{ℕ, ◌*◌, ◌<◌, ◌≤◌}
 use native.Mathlib.Omega.{arith}
 use native.Mathlib.Nat.{mul-le-mul_right}
 use borrow.Author.Tests.{lt-ltb, le-ltb, lt-leb, le-leb, eqb-true}
 use lib.Dec.{eqb, leb}
-use lib.ListN.{length, take, drop, get_or, length-append, length-drop, drop_of_length-le}
-use lib.Seq.{drop-cons}
+use lib.ListN.{length, take, drop, length-append}
 use lib.Ieee.{Float, binary64, of_bits}
-use Rattle.number.specs.Reply.{Reply, refused, given}
+use Rattle.number.specs.Reply.{refused, given}
 use Rattle.number.proofs.Zeros.{both}
-use Rattle.kuhn_munkres.specs.Assignment.{Pairs, in_one, assignment_reply}
+use Rattle.kuhn_munkres.specs.Assignment.{in_one, assignment_reply}
 use Rattle.assignment.specs.Listing.{AssignmentAnswer, pairs_in}
-use Rattle.assignment.specs.declared.Assigned.{Assigned}
-use Rattle.assignment.specs.declared.Outcome.TheVariants.{Given, TooMany, NonFinite, Failed}
+use Rattle.assignment.specs.Replies.{number_of}
+use Rattle.assignment.specs.declared.Assignment.{Assignment}
+use Rattle.assignment.specs.declared.AssignmentError.{AssignmentError}
+use Rattle.std.specs.Prelude.{Ok, Err, None, Option, Some}
 use Rattle.forms.specs.Shape.{form_of, place_reply}
 use Rattle.forms.proofs.Shapes.{read_next, read_refused}
 use Rattle.request.specs.Request.{Request, request_of, shaped, even}
-use Rattle.request.specs.Asking.{Stated, asked_reply, reply_of_asked, no_costs, costs_of}
+use Rattle.std.specs.Cmp.Lexicographic.{pointwise}
+use Rattle.request.specs.Asking.{Stated, asked_reply, no_costs, costs_of}
 use Rattle.request.proofs.Asks.{over_front}
-use Rattle.request.specs.declared.Asked.TheVariants.{Table}
 use Rattle.text.specs.Text.{refused_text, answer_text, text_of}
 use Rattle.line.specs.Line.{whole, formed, decided, reply_to, answer_of}
 
@@ -43,65 +42,54 @@ module _ (s : List ℕ) where
     formed_none g = rw (formed_is, read_refused s 0 4 g)
 
     module _ (e : ℕ) (g : given e ≡ place_reply s (form_of 4 (drop 0 s))) where
-      found : form_of 4 s ≡ some (drop e s)
+      found : form_of 4 s ≡ Some (drop e s)
       found = (read_next s 0 4 e g).left
 
-      pub formed_ends : length s ≤ e → false ≡ formed s
-      unfolding whole
-      formed_ends k = rw (formed_is, found, drop_of_length-le s k)
+      pub formed_within : e ≤ length s
+      formed_within = (read_next s 0 4 e g).within
 
-      pub formed_more : (length s - e ≡ 1 → ⊥) → false ≡ formed s
+      pub formed_end : pointwise eqb (drop e s) (10 ∷ []) ≡ formed s
       unfolding whole
-      formed_more f = rw (formed_is, found) (go (drop e s) (λ k. f (sym (length-drop e s) ∙ k)))
+      formed_end = rw (formed_is, found) (go (drop e s))
         where
-          go : (l : List ℕ) → (length l ≡ 1 → ⊥) → false ≡ whole (some l)
-          go [] f = refl
-          go (b ∷ []) f = absurd (f refl)
-          go (b ∷ c ∷ l) f = refl
-
-      pub formed_last : length s - e ≡ 1 → eqb (get_or s e 0) 10 ≡ formed s
-      unfolding whole
-      formed_last k =
-          let a : drop e s ≡ get_or s e 0 ∷ drop (e + 1) s = rw (add-one) (drop-cons s e 0 (omega arith)) in
-          let b : drop (e + 1) s ≡ [] = drop_of_length-le s {i = e + 1} (omega arith) in
-          rw (formed_is, found, a, b)
+          go : (l : List ℕ) → pointwise eqb l (10 ∷ []) ≡ whole (Some l)
+          go [] = refl
+          go (b ∷ []) = last (eqb b 10)
+            where
+              last : (t : Bool) → t && true ≡ t
+              last true = refl
+              last false = refl
+          go (b ∷ c ∷ l) = more (eqb b 10)
+            where
+              more : (t : Bool) → t && false ≡ false
+              more true = refl
+              more false = refl
 
 -- ---- the pairing
 pub mul_few : (r c : ℕ) → r ≤ 64 → c ≤ 64 → r * c ≤ 4096
 mul_few r c h g = let a : r * c ≤ 64 * c = mul-le-mul_right c h in omega arith
 
-module _ (costs : List Float) {n m : ℕ} {rowCost columnCost : Float} (r : Assigned) (a : AssignmentAnswer costs n m rowCost columnCost r) where
-  abbrev reply : Reply Pairs
-  reply = assignment_reply costs n m rowCost columnCost
-
-  pub reply_given : r.outcome ≡ Given → answer_text (pairs_in r.assignment) ≡ text_of reply
+module _ (costs : List Float) {n m : ℕ} {rowCost columnCost : Float} where
+  pub reply_given : (a : Assignment) → AssignmentAnswer costs n m rowCost columnCost (Ok a) → answer_text (pairs_in a) ≡ text_of (assignment_reply costs n m rowCost columnCost)
   unfolding text_of
-  reply_given e = rw (← a.is, e)
+  reply_given a h = rw (← h.is)
 
-  pub reply_many : r.outcome ≡ TooMany → refused_text 11 ≡ text_of reply
+  pub reply_refused : (why : AssignmentError) → AssignmentAnswer costs n m rowCost columnCost (Err why) → refused_text (number_of why) ≡ text_of (assignment_reply costs n m rowCost columnCost)
   unfolding text_of
-  reply_many e = rw (← a.is, e)
-
-  pub reply_endless : r.outcome ≡ NonFinite → refused_text 9 ≡ text_of reply
-  unfolding text_of
-  reply_endless e = rw (← a.is, e)
-
-  pub reply_failed : r.outcome ≡ Failed → refused_text 10 ≡ text_of reply
-  unfolding text_of
-  reply_failed e = rw (← a.is, e)
+  reply_refused why h = rw (← h.is)
 
 -- ---- what is asked
 pub record AskedGot (read : Option Request) (r c : ℕ) (k : Float) (b : Bool) : Type 0 where
   pub asked : Request
-  pub is : read ≡ some asked
+  pub is : read ≡ Some asked
   pub rows_are : r ≡ asked.sizes.rows
   pub columns_are : c ≡ asked.sizes.columns
   pub cost_is : k ≡ asked.sizes.cost
   pub shaped_is : b ≡ shaped asked
 
-pub asked_got : (read : Option Request) (r c : ℕ) (k : Float) (b : Bool) → reply_of_asked (Table r c k b) ≡ asked_reply read → AskedGot read r c k b
-asked_got none r c k b h = absurd (let z : ◌≡◌ {A = ℕ} 0 1 = cc in omega arith)
-asked_got (some q) r c k b h =
+pub asked_got : (read : Option Request) (r c : ℕ) (k : Float) (b : Bool) → given (record { sizes = record { rows = r; columns = c; cost = k }; shaped_table = b }) ≡ asked_reply read → AskedGot read r c k b
+asked_got None r c k b h = absurd (let z : ◌≡◌ {A = ℕ} 0 1 = cc in omega arith)
+asked_got (Some q) r c k b h =
     let x : Stated = record { sizes = record { rows = r; columns = c; cost = k }; shaped_table = b } in
     let e : x ≡ record { sizes = q.sizes; shaped_table = shaped q } = cc in
     record {
@@ -115,8 +103,8 @@ asked_got (some q) r c k b h =
 
 pub nothing_asked : (read : Option Request) → refused 13 ≡ asked_reply read → refused_text 13 ≡ text_of (decided read)
 unfolding decided text_of
-nothing_asked none h = refl
-nothing_asked (some q) h = absurd (let z : ◌≡◌ {A = ℕ} 0 1 = cc in omega arith)
+nothing_asked None h = refl
+nothing_asked (Some q) h = absurd (let z : ◌≡◌ {A = ℕ} 0 1 = cc in omega arith)
 
 -- rows of w make so many costs
 pub even_size : (w : ℕ) (t : List (List Float)) → even w t ≡ true → length (in_one t) ≡ length t * w

@@ -1,7 +1,7 @@
 -- Which numbers are written: rows and columns below 64, and refusals below 100, so each as its decimal (text's proofs/Digits, `digits-read`).
+use Rattle.std.specs.Prelude.{None, Option, Some}
 use mathlib.Core.Path.{◌≡◌, refl, sym}
 use mathlib.Core.Bool.{Bool, true, false, cond, ◌&&◌}
-use mathlib.Core.Option.{Option, none, some}
 use mathlib.Core.List.{List, [], ◌∷◌, map}
 use Prim.Native.Nat.{ℕ, zero, ◌+◌, ◌*◌, ◌<◌, ◌≤◌}
 use native.Mathlib.Omega.{arith}
@@ -68,8 +68,8 @@ answer_named l a e = shape (formed l) (request_of l) e
 
     shape : (b : Bool) (o : Option Request) → refuse_unless b 13 (decided o) ≡ given a → Named a
     shape false o e = never_given 13 a e
-    shape true none e = never_given 13 a e
-    shape true (some q) e = answered q (leb q.sizes.rows 64) (leb q.sizes.columns 64) (shaped q) refl refl e
+    shape true None e = never_given 13 a e
+    shape true (Some q) e = answered q (leb q.sizes.rows 64) (leb q.sizes.columns 64) (shaped q) refl refl e
 
 -- ---- a refusal: 13, 11, 10 or 9
 small : {A : Type 0} (n k : ℕ) → n < 100 → ◌≡◌ {A = Reply A} (refused n) (refused k) → k < 100
@@ -125,5 +125,5 @@ refusal_small l k e = shape (formed l) (request_of l) e
 
     shape : (b : Bool) (o : Option Request) → refuse_unless b 13 (decided o) ≡ refused k → k < 100
     shape false o e = small 13 k (omega arith) e
-    shape true none e = small 13 k (omega arith) e
-    shape true (some q) e = asked q (leb q.sizes.rows 64 && leb q.sizes.columns 64) (shaped q) e
+    shape true None e = small 13 k (omega arith) e
+    shape true (Some q) e = asked q (leb q.sizes.rows 64 && leb q.sizes.columns 64) (shaped q) e

@@ -1,6 +1,5 @@
 -- The whole line, from bytes to bytes.
-use Rattle.std.specs.Prelude.{Bool, false, cond, ◌&&◌, List, [], ◌∷◌, ℕ, eqb, ltb, leb, length}
-use Rattle.std.proofs.Math.Option.{Option, none, some}
+use Rattle.std.specs.Prelude.{Bool, false, cond, ◌&&◌, List, [], ◌∷◌, ℕ, eqb, ltb, leb, length, None, Option, Some}
 use Rattle.std.specs.Float.{binary64}
 use Rattle.std.specs.Float.Ieee.{of_bits}
 use Rattle.number.specs.Reply.{Reply, refused, refuse_unless}
@@ -11,10 +10,10 @@ use Rattle.text.specs.Text.{text_of}
 
 -- a form, a newline and no more
 unfoldable pub whole : Option (List ℕ) → Bool
-whole none = false
-whole (some []) = false
-whole (some (b ∷ [])) = eqb b 10
-whole (some (b ∷ c ∷ l)) = false
+whole None = false
+whole (Some []) = false
+whole (Some (b ∷ [])) = eqb b 10
+whole (Some (b ∷ c ∷ l)) = false
 
 -- 01: "13 for another shape, .. over 16,384 bytes with the newline, no newline, or bytes after it"; "A form is .. at most 4 deep"
 unfoldable pub formed : List ℕ → Bool
@@ -22,8 +21,8 @@ formed l = cond (ltb 16384 (length l)) false (whole (form_of 4 l))
 
 -- 01: "13 for another shape, a number out of range ..; then 11; then 10 unless the table has the stated rows, each of the stated columns." "Column cost is 0."
 unfoldable pub decided : Option Request → Reply Pairs
-decided none = refused 13
-decided (some q) =
+decided None = refused 13
+decided (Some q) =
     refuse_unless (leb q.sizes.rows 64 && leb q.sizes.columns 64) 11
     (refuse_unless (shaped q) 10
     (assignment_reply (in_one q.table) q.sizes.rows q.sizes.columns q.sizes.cost (of_bits binary64 0)))

@@ -9,28 +9,35 @@ ghost use Rattle.request.specs.Request.{request_of};
 ghost use Rattle.text.specs.Text.{Wrote, text_of, roomed};
 ghost use Rattle.line.specs.Line.{formed, decided, answer_of};
 
-use assignment::Outcome;
-use forms::Read;
-use request::Asked;
+use assignment::AssignmentError;
+
+// A line has no more bytes, with its newline.
+const LONGEST: usize = 16384;
+
+// A form nests no deeper.
+const DEEPEST: usize = 4;
+
+// No more rows, and no more columns, are paired.
+const MOST: u32 = 64;
+
+// Why a line is refused. The number of each is what is written.
+enum Refusal {
+    NonFinite = 9,
+    NoPairing = 10,
+    TooMany = 11,
+    NoRequest = 13,
+}
 
 // Whether the bytes are a form, a newline and no more, and not too many.
 fn is_formed(input: &[u8]) -> bool
     ensures { result ≡ formed input.now }
 {
-    if 16384 < input.len() {
+    if input.len() > LONGEST {
         return false;
     }
-    match forms::form(input, 0, 4) {
-        Read::Refused => false,
-        Read::Next(e) => {
-            if input.len() <= e {
-                return false;
-            }
-            if input.len() - e != 1 {
-                return false;
-            }
-            input[e] == 10
-        }
+    match forms::form(input, 0, DEEPEST) {
+        None => false,
+        Some(end) => &input[end..] == b"\n".as_slice(),
     }
 }
 
@@ -40,14 +47,11 @@ fn pair(costs: &[f64], rows: usize, columns: usize, cost: f64, out: &mut [u8]) -
     ensures { Wrote (roomed (length out.old) (text_of (assignment_reply (take (rows * columns) costs.now) rows columns cost (of_bits binary64 0)))) out.old result out.new }
 {
     let n = rows * columns;
-    let given = assignment::linear_assignment(&costs[..n], rows, columns, cost, 0.0);
-    let outcome = given.outcome;
-    let found = given.assignment;
-    match outcome {
-        Outcome::Given => text::write_answer(out, found),
-        Outcome::TooMany => text::write_refusal(out, 11),
-        Outcome::NonFinite => text::write_refusal(out, 9),
-        Outcome::Failed => text::write_refusal(out, 10),
+    match assignment::linear_assignment(&costs[..n], rows, columns, cost, 0.0) {
+        Ok(found) => text::write_answer(out, found),
+        Err(AssignmentError::TooMany) => text::write_refusal(out, Refusal::TooMany as usize),
+        Err(AssignmentError::NonFinite) => text::write_refusal(out, Refusal::NonFinite as usize),
+        Err(AssignmentError::Failed) => text::write_refusal(out, Refusal::NoPairing as usize),
     }
 }
 
@@ -55,32 +59,31 @@ fn pair(costs: &[f64], rows: usize, columns: usize, cost: f64, out: &mut [u8]) -
 fn decide(input: &[u8], out: &mut [u8]) -> usize
     ensures { Wrote (roomed (length out.old) (text_of (decided (request_of input.now)))) out.old result out.new }
 {
-    let read = request::read_request(input);
-    let asked = read.asked;
-    let costs = read.costs;
-    match asked {
-        Asked::NoRequest => text::write_refusal(out, 13),
-        Asked::Table(rows, columns, cost, shaped) => {
-            if 64 < rows {
-                return text::write_refusal(out, 11);
-            }
-            if 64 < columns {
-                return text::write_refusal(out, 11);
-            }
-            if !shaped {
-                return text::write_refusal(out, 10);
-            }
-            pair(&costs, rows as usize, columns as usize, cost, out)
-        }
+    let Some(asked) = request::read_request(input) else {
+        return text::write_refusal(out, Refusal::NoRequest as usize);
+    };
+    if asked.rows > MOST || asked.columns > MOST {
+        return text::write_refusal(out, Refusal::TooMany as usize);
     }
+    if !asked.shaped {
+        return text::write_refusal(out, Refusal::NoPairing as usize);
+    }
+    pair(
+        &asked.costs,
+        asked.rows as usize,
+        asked.columns as usize,
+        asked.cost,
+        out,
+    )
 }
 
 // Writes the answer to a line into the front of `out`, which has room for 1,024 bytes, and gives its length. A shorter `out` gets nothing.
 pub fn answer(input: &[u8], out: &mut [u8]) -> usize
     ensures { Wrote (roomed (length out.old) (answer_of input.now)) out.old result out.new }
 {
-    if !is_formed(input) {
-        return text::write_refusal(out, 13);
+    if is_formed(input) {
+        decide(input, out)
+    } else {
+        text::write_refusal(out, Refusal::NoRequest as usize)
     }
-    decide(input, out)
 }

@@ -1,8 +1,8 @@
 -- The answer to a line is, of all pairings of the line's table, one of least total.
+use Rattle.std.specs.Prelude.{Some}
 use mathlib.Core.Path.{◌≡◌, refl, sym, ap, ◌∙◌, subst}
 use mathlib.Core.Bool.{true, false, ◌&&◌}
 use mathlib.Core.List.{List, [], ◌∷◌}
-use mathlib.Core.Option.{some}
 use Prim.Native.Nat.{ℕ, zero, suc, ◌*◌, ◌≤◌, ◌<◌}
 use native.Mathlib.Omega.{arith}
 use borrow.Author.Tests.{leb-true, le-leb, eqb-true}
@@ -89,7 +89,7 @@ module _ (q : Request) (N : Numbers q) (few_rows : q.sizes.rows ≤ 64) (few_col
       let z : T.answer ≡ a = cc in
       subst (LeastLine q) z (record { pairing = T.pairing; least = T.least })
 
-pub line_least : (l : List ℕ) (q : Request) (a : Pairs) → request_of l ≡ some q → reply_to l ≡ given a → LeastLine q a
+pub line_least : (l : List ℕ) (q : Request) (a : Pairs) → request_of l ≡ Some q → reply_to l ≡ given a → LeastLine q a
 unfolding reply_to decided
 line_least l q a r e =
     let x = past_test (formed l) 13 (decided (request_of l)) a e in
@@ -100,7 +100,7 @@ line_least l q a r e =
 
 -- Of lines that ask for something within the limits, only those with a table of another shape are refused: no step on a line's numbers fails.
 pub line-answered :
-    (l : List ℕ) (q : Request) → formed l ≡ true → request_of l ≡ some q → q.sizes.rows ≤ 64 → q.sizes.columns ≤ 64 → shaped q ≡ true
+    (l : List ℕ) (q : Request) → formed l ≡ true → request_of l ≡ Some q → q.sizes.rows ≤ 64 → q.sizes.columns ≤ 64 → shaped q ≡ true
     → (a : Pairs) × (reply_to l ≡ given a) × LeastLine q a
 unfolding reply_to decided
 line-answered l q f r few_rows few_columns has =

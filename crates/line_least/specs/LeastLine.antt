@@ -1,7 +1,6 @@
 -- What the answer to a line of the program `assign` means: of all pairings of the line's table, one of least total. 01, Line of the program `assign`: "rows and
 -- columns (0 or more), row cost, table"; "Column cost is 0."
-use Rattle.std.specs.Prelude.{ℕ, suc, List, ℤ, pos, negsuc, Float}
-use Rattle.std.proofs.Math.Option.{Option, none, some}
+use Rattle.std.specs.Prelude.{ℕ, suc, List, ℤ, pos, negsuc, Float, None, Option, Some}
 use Rattle.number.specs.Reply.{Reply, refused, given}
 use Rattle.whole.specs.Integer.{Integer, 0_z, natural, neg_z, ◌≤Z◌}
 use Rattle.whole.specs.Whole.{whole_of}
@@ -35,9 +34,9 @@ pub record LeastLine (q : Request) (a : Pairs) : Type 0 where
 
 -- the total of the pairing that a line is answered with, and none where it is refused
 unfoldable pub total_for : Option Request → Reply Pairs → Option Integer
-total_for none r = none
-total_for (some q) (refused n) = none
-total_for (some q) (given a) = some (total_in q a.pairs)
+total_for None r = None
+total_for (Some q) (refused n) = None
+total_for (Some q) (given a) = Some (total_in q a.pairs)
 
 unfoldable pub line_total : List ℕ → Option Integer
 line_total l = total_for (request_of l) (reply_to l)

@@ -1,12 +1,12 @@
 -- Laws of a list laid over the front of another. Assumes nothing.
-use mathlib.Core.Path.{◌≡◌, refl, ap, sym, ◌∙◌}
+use mathlib.Core.Path.{◌≡◌, ap, sym, ◌∙◌}
 use mathlib.Core.List.{List, [], ◌∷◌, ◌++◌, append_assoc, map}
-use Prim.Native.Nat.{ℕ, suc, zero, ◌+◌, ◌≤◌, ◌<◌, ◌-◌, min}
+use Prim.Native.Nat.{ℕ, suc, ◌+◌, ◌≤◌, ◌<◌, ◌-◌, min}
 use native.Mathlib.Numerals.{add-one}
 use native.Mathlib.Decide.{dec_le}
 use native.Mathlib.Omega.{arith}
-use lib.ListN.{length, take, drop, get_or, set, length-append, length-take, length-drop, take-append-drop, length-set, length-map}
-use lib.Seq.{take-append_seam, drop-append_seam, drop-append-add, drop-drop, drop-cons, set-append_seam, get_or-append-add, get_or-drop, take_all, length-take-le, set-append_left, take-suc}
+use lib.ListN.{length, take, drop, get_or, set, length-append, length-drop, take-append-drop, length-set, length-map}
+use lib.Seq.{take-append_seam, drop-append-add, drop-drop, drop-cons, set-append_seam, get_or-append-add, get_or-drop, take_all, length-take-le, set-append_left, take-suc}
 use Rattle.lists.specs.Lay.{lay}
 
 module _ {A : Type 0} where

@@ -1,13 +1,13 @@
 -- What a loop over an array has done by index i, as a record that its invariant cites, with the law of each kind of turn. Assumes nothing.
+use Rattle.std.specs.Prelude.{None, Option, Some}
 use mathlib.Core.Path.{◌≡◌, refl, ap, sym, ◌∙◌}
 use mathlib.Core.List.{List, [], ◌∷◌, ◌++◌, map, append_assoc, append-nil}
 use mathlib.Core.Bool.{Bool, true, false}
-use mathlib.Core.Option.{Option, none, some}
 use Prim.Native.Nat.{ℕ, suc, zero, ◌+◌, ◌-◌, ◌≤◌, ◌<◌, zero-le}
 use native.Mathlib.Omega.{arith}
 use native.Mathlib.Numerals.{add-one}
 use lib.ListN.{length, take, drop, get_or, set, length-append, length-map, length-drop}
-use lib.Seq.{take-suc, length-take-le, get_or-take, get_or-drop, take-take, take-nil}
+use lib.Seq.{take-suc, length-take-le, get_or-take, get_or-drop, take-take, take-nil, paste}
 use native.Mathlib.Nat.{sub-zero, suc-sub-suc}
 use Rattle.lists.specs.Lay.{lay}
 use Rattle.lists.specs.Table.{inserted}
@@ -39,13 +39,13 @@ module _ {A : Type 0} (f : A → Option A) where
       ap (λ (q : List A). get_or q i d) s.slots
       ∙ get_d_lay (sift f (take i l)) l i d (sift_take_length f l i s.read)
 
-  pub sifted_drop : (l m : List A) (i j : ℕ) (d : A) → Sifted f l m i j → i < length l → f (get_or m i d) ≡ none → Sifted f l m (i + 1) j
+  pub sifted_drop : (l m : List A) (i j : ℕ) (d : A) → Sifted f l m i j → i < length l → f (get_or m i d) ≡ None → Sifted f l m (i + 1) j
   sifted_drop l m i j d s h e =
       let more : sift f (take (i + 1) l) ≡ sift f (take i l) =
       sift_more f l i d h ∙ ap (λ (o : Option A). sift f (take i l) ++ kept o []) (ap f (sym (sifted_read l m i j d s)) ∙ e) ∙ append-nil (sift f (take i l)) in
       record { read = omega arith; count = rw more s.count; slots = rw more s.slots }
 
-  pub sifted_keep : (l m : List A) (i j : ℕ) (d y : A) → Sifted f l m i j → i < length l → f (get_or m i d) ≡ some y → Sifted f l (set m j y) (i + 1) (j + 1)
+  pub sifted_keep : (l m : List A) (i j : ℕ) (d y : A) → Sifted f l m i j → i < length l → f (get_or m i d) ≡ Some y → Sifted f l (set m j y) (i + 1) (j + 1)
   sifted_keep l m i j d y s h e =
       let more : sift f (take (i + 1) l) ≡ sift f (take i l) ++ (y ∷ []) =
       sift_more f l i d h ∙ ap (λ (o : Option A). sift f (take i l) ++ kept o []) (ap f (sym (sifted_read l m i j d s)) ∙ e) in
@@ -106,7 +106,7 @@ module _ {A : Type 0} (p : A → Bool) (d : A) where
       (λ j q. let b : j < n = omega (arith, length-take-le n l h) in rw (get_or-take n l j d b) (s.misses j b))
 
   -- and where: the first stands at i, or nowhere
-  pub missed_first : (l : List A) (n i : ℕ) → Missed p d l i → n ≤ length l → i < n → p (get_or l i d) ≡ true → first_at p (take n l) ≡ some i
+  pub missed_first : (l : List A) (n i : ℕ) → Missed p d l i → n ≤ length l → i < n → p (get_or l i d) ≡ true → first_at p (take n l) ≡ Some i
   missed_first l n i s h k e =
       first_at_lem p d (take n l) i
       (record {
@@ -115,7 +115,7 @@ module _ {A : Type 0} (p : A → Bool) (d : A) where
         hits = rw (get_or-take n l i d k) e;
       })
 
-  pub missed_nowhere : (l : List A) (n : ℕ) → Missed p d l n → n ≤ length l → first_at p (take n l) ≡ none
+  pub missed_nowhere : (l : List A) (n : ℕ) → Missed p d l n → n ≤ length l → first_at p (take n l) ≡ None
   missed_nowhere l n s h =
       first_none p d (take n l)
       (λ j q. let b : j < n = omega (arith, length-take-le n l h) in rw (get_or-take n l j d b) (s.misses j b))
@@ -126,33 +126,16 @@ pub record Shifted {A : Type 0} (l m : List A) (i : ℕ) : Type 0 where
   pub slots : m ≡ lay (take i (drop 1 l)) l
 
 module _ {A : Type 0} where
-  pub shifted_start : (l : List A) → 0 < length l → Shifted l l 0
-  unfolding lay
-  shifted_start l h = record { read = h; slots = refl }
-
   shifted_length : (l : List A) (i : ℕ) → i < length l → length (take i (drop 1 l)) ≡ i
   shifted_length l i h = length-take-le i (drop 1 l) (omega (arith, length-drop 1 l))
 
-  pub shifted_more : (l m : List A) (i : ℕ) (d : A) → Shifted l m i → i + 1 < length l → Shifted l (set m i (get_or m (i + 1) d)) (i + 1)
-  shifted_more l m i d s h =
-      let k : length (take i (drop 1 l)) ≡ i = shifted_length l i s.read in
-      let n : 1 + i ≡ i + 1 = omega arith in
-      let e : get_or m (i + 1) d ≡ get_or (drop 1 l) i d =
-      ap (λ (q : List A). get_or q (i + 1) d) s.slots
-      ∙ get_d_lay (take i (drop 1 l)) l (i + 1) d (omega arith)
-      ∙ ap (λ (j : ℕ). get_or l j d) (sym n)
-      ∙ sym (get_or-drop 1 l i d) in
-      let more : take (i + 1) (drop 1 l) ≡ take i (drop 1 l) ++ (get_or (drop 1 l) i d ∷ []) =
-      ap (λ (j : ℕ). take j (drop 1 l)) (add-one i) ∙ take-suc (drop 1 l) i d (omega (arith, length-drop 1 l)) in
-      record {
-        read = h;
-        slots =
-            ap (λ (x : A). set m i x) e
-            ∙ ap (λ (q : List A). set q i (get_or (drop 1 l) i d)) s.slots
-            ∙ ap (λ (j : ℕ). set (lay (take i (drop 1 l)) l) j (get_or (drop 1 l) i d)) (sym k)
-            ∙ set_lay (take i (drop 1 l)) l (get_or (drop 1 l) i d) (omega arith)
-            ∙ ap (λ (q : List A). lay q l) (sym more);
-      }
+  -- a copy of all but the first of n elements, one place down
+  pub shifted_copy : (l : List A) (n : ℕ) → 0 < n → n ≤ length l → Shifted l (paste l 0 (drop 1 l) (n - 1)) (n - 1)
+  unfolding lay
+  shifted_copy l n z h =
+      let k : length (take (n - 1) (drop 1 l)) ≡ n - 1 = shifted_length l (n - 1) (omega arith) in
+      let e : 0 + (n - 1) ≡ n - 1 = omega arith in
+      record { read = omega arith; slots = rw (k, e) refl }
 
   -- the first of n elements forgotten, and x put behind the others
   pub shifted_store : (l m : List A) (n : ℕ) (x : A) → 0 < n → n ≤ length l → Shifted l m (n - 1) → set m (n - 1) x ≡ lay (drop 1 (take n l) ++ (x ∷ [])) l

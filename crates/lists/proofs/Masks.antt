@@ -1,7 +1,7 @@
 -- Laws of masks: what is left of a list, of two masks one after another, and what is put back. Assumes nothing.
+use Rattle.std.specs.Prelude.{None, Option}
 use mathlib.Core.Path.{◌≡◌, refl, sym, ap, ◌∙◌}
 use mathlib.Core.List.{List, [], ◌∷◌, ◌++◌, map}
-use mathlib.Core.Option.{Option, none}
 use mathlib.Core.Bool.{Bool, true, false, cond, true≢false}
 use Prim.Native.Nat.{ℕ, zero, suc, ◌+◌, ◌≤◌, ◌<◌}
 use native.Mathlib.Decide.{ℕ_discrete}
@@ -262,10 +262,10 @@ spread_left (false ∷ k) (false ∷ m) l (o ∷ t) h g = let r = spread_left k 
 
 -- ---- none anywhere
 
-pub none_left : {A : Type 0} (k : List Bool) → (◌≡◌ {A = List (Option A)} (left_by k (replicate (length k) none)) (replicate (count k) none)) × Struck (Absent {A = A}) k (replicate (length k) none)
+pub none_left : {A : Type 0} (k : List Bool) → (◌≡◌ {A = List (Option A)} (left_by k (replicate (length k) None)) (replicate (count k) None)) × Struck (Absent {A = A}) k (replicate (length k) None)
 unfolding left_by Struck count
 none_left [] = (refl, tt)
-none_left {A} (true ∷ k) = (ap {B = List (Option A)} (λ r. none ∷ r) (none_left k).0, (none_left k).1)
+none_left {A} (true ∷ k) = (ap {B = List (Option A)} (λ r. None ∷ r) (none_left k).0, (none_left k).1)
 none_left (false ∷ k) = ((none_left k).0, (refl, (none_left k).1))
 
 -- ---- putting back

@@ -1,18 +1,18 @@
 -- Laws of a list sifted element by element. Assumes nothing.
+use Rattle.std.specs.Prelude.{None, Option, Some}
 use mathlib.Core.Path.{◌≡◌, refl, ap, sym, ◌∙◌}
 use mathlib.Core.List.{List, [], ◌∷◌, ◌++◌}
-use mathlib.Core.Option.{Option, none, some}
-use Prim.Native.Nat.{ℕ, suc, zero, ◌+◌, ◌≤◌, ◌<◌, zero-le, suc-le-suc}
+use Prim.Native.Nat.{ℕ, suc, ◌+◌, ◌≤◌, ◌<◌, zero-le}
 use native.Mathlib.Omega.{arith}
 use native.Mathlib.Numerals.{add-one}
-use lib.ListN.{length, take, drop, get_or, set, length-append, length-take}
+use lib.ListN.{length, take, get_or}
 use lib.Seq.{take-suc, length-take-le}
 use Rattle.lists.specs.Sift.{kept, sift}
 
 module _ {A : Type 0} where
   kept_append : (o : Option A) (l m : List A) → kept o l ++ m ≡ kept o (l ++ m)
-  kept_append none l m = refl
-  kept_append (some x) l m = refl
+  kept_append None l m = refl
+  kept_append (Some x) l m = refl
 
   sift_append : (f : A → Option A) (l m : List A) → sift f (l ++ m) ≡ sift f l ++ sift f m
   unfolding sift
@@ -31,8 +31,8 @@ module _ {A : Type 0} where
   sift_length f (x ∷ xs) = go (f x) (sift_length f xs)
     where
       go : (o : Option A) → length (sift f xs) ≤ length xs → length (kept o (sift f xs)) ≤ suc (length xs)
-      go none h = omega arith
-      go (some y) h = omega arith
+      go None h = omega arith
+      go (Some y) h = omega arith
 
   pub sift_take_length : (f : A → Option A) (l : List A) (i : ℕ) → i ≤ length l → length (sift f (take i l)) ≤ i
   sift_take_length f l i h = omega (arith, sift_length f (take i l), length-take-le i l h)

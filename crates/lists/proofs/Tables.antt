@@ -1,25 +1,21 @@
 -- What stores do to a table, as the list that it holds. Assumes nothing.
+use Rattle.std.specs.Prelude.{None, Some, slice_get}
 use mathlib.Core.Path.{◌≡◌, refl, ap, sym, subst, ◌∙◌}
 use mathlib.Core.Bool.{Bool, true}
 use mathlib.Core.List.{List, [], ◌∷◌, ◌++◌, map}
-use mathlib.Core.Option.{Option, none, some}
-use Prim.Native.Nat.{ℕ, suc, zero, ◌+◌, ◌-◌, ◌≤◌, ◌<◌, min}
+use Prim.Native.Nat.{ℕ, suc, ◌+◌, ◌-◌, ◌≤◌, ◌<◌, min}
 use native.Mathlib.Decide.{dec_le}
 use native.Mathlib.Omega.{arith}
 use borrow.Author.Tests.{lt-ltb, le-ltb}
 use lib.Dec.{ltb}
-use lib.ListN.{length, take, drop, get_or, set, get_elem?, length-append, length-map, length-take, length-drop, length-set, take-append-drop}
+use lib.ListN.{length, take, drop, get_or, set, length-append, length-map, length-take, length-drop, length-set, take-append-drop}
 use lib.Seq.{length-take-le, get_or-take, take-take, take-set-le, take-set-lt, drop-set-lt, set-get_or, set_out}
 use Rattle.lists.specs.Lay.{lay}
-use Rattle.lists.specs.Table.{Table, table, over_table, pushed, inserted, last_into, swap_remove}
+use Rattle.lists.specs.Table.{table, over_table, pushed, inserted, swap_remove}
+use Rattle.std.proofs.lemmas.Option.{slice_get-get_or}
 use Rattle.lists.specs.First.{first_at}
 use Rattle.lists.proofs.Loops.{Mapped, Missed, missed_first, missed_nowhere}
 use Rattle.lists.proofs.Laying.{lay_front, push_lay, store_lay, take_min}
-
-elem_at : {A : Type 0} (l : List A) (i : ℕ) (d : A) → i < length l → get_elem? l i ≡ some (get_or l i d)
-elem_at [] i d h = absurd (omega arith)
-elem_at (x ∷ l) zero d h = refl
-elem_at (x ∷ l) (suc i) d h = elem_at l i d (omega arith)
 
 -- the count itself tells whether there is room
 pub count_room : {A : Type 0} (a : List A) (most count : ℕ) → length a ≡ most → ltb (length (take count a)) most ≡ ltb count most
@@ -55,10 +51,10 @@ module _ {A : Type 0} (a : List A) (most count n : ℕ) (size : length a ≡ mos
   unchanged op e = laid op (take n a) a n e (sym (lay_front n a within)) (sym rows_length)
 
   -- a search that ends at i, and one that ends at no place
-  pub found : (p : A → Bool) (d : A) (i : ℕ) → Missed p d a i → i < n → p (get_or a i d) ≡ true → first_at p (take count a) ≡ some i
+  pub found : (p : A → Bool) (d : A) (i : ℕ) → Missed p d a i → i < n → p (get_or a i d) ≡ true → first_at p (take count a) ≡ Some i
   found p d i s h e = ap (first_at p) rows ∙ missed_first p d a n i s within h e
 
-  pub nowhere : (p : A → Bool) (d : A) (i : ℕ) → Missed p d a i → i ≡ n → first_at p (take count a) ≡ none
+  pub nowhere : (p : A → Bool) (d : A) (i : ℕ) → Missed p d a i → i ≡ n → first_at p (take count a) ≡ None
   nowhere p d i s e = ap (first_at p) rows ∙ missed_nowhere p d a n (subst (Missed p d a) e s) within
 
   -- all are changed
@@ -96,10 +92,10 @@ module _ {A : Type 0} (a : List A) (most count n : ℕ) (size : length a ≡ mos
   unfolding pushed
   pushed_full x h = unchanged (pushed most x) (rw (rows_length, le-ltb n most h))
 
-  last_of : (d : A) → 0 < n → get_elem? (take n a) (n - 1) ≡ some (get_or a (n - 1) d)
+  last_of : (d : A) → 0 < n → slice_get (take n a) (n - 1) ≡ Some (get_or a (n - 1) d)
   last_of d h =
-      elem_at (take n a) (n - 1) d (omega (arith, rows_length))
-      ∙ ap some (get_or-take n a (n - 1) d (omega arith))
+      slice_get-get_or (take n a) (n - 1) d (omega (arith, rows_length))
+      ∙ ap Some (get_or-take n a (n - 1) d (omega arith))
 
   -- the last of the taken places is given up, once its element stands in another
   shorter : (i : ℕ) (d : A) → i < n → set a i (get_or a (n - 1) d) ≡ lay (take (n - 1) (set (take n a) i (get_or a (n - 1) d))) a

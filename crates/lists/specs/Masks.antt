@@ -1,6 +1,5 @@
 -- Masks: which elements of a list stay, and what is put back at those that stayed.
-use Rattle.std.specs.Prelude.{List, [], ◌∷◌, ◌≡◌, Bool, true, false, ℕ, zero, suc}
-use Rattle.std.proofs.Math.Option.{Option, none}
+use Rattle.std.specs.Prelude.{List, [], ◌∷◌, ◌≡◌, Bool, true, false, ℕ, zero, suc, None, Option}
 
 module _ {A : Type 0} where
   -- What the mask leaves of a list: `true` stays. 01's "striking .. leaves".
@@ -27,7 +26,7 @@ module _ {A : Type 0} where
   Struck R (false ∷ k) (x ∷ l) = R x × Struck R k l
 
   abbrev pub Absent : Option A → Type 0
-  Absent o = o ≡ none
+  Absent o = o ≡ None
 
   -- R holds of every one
   unfoldable pub Every : (A → Type 0) → List A → Type 0

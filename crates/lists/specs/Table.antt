@@ -1,7 +1,5 @@
 -- A table is an array with a count, read as the list of its first places, whatever the count says. What is done with such a list.
-use Rattle.std.specs.Prelude.{ℕ, ◌-◌, cond, List, [], ◌∷◌, ◌++◌, ltb, length, take, drop, set}
-use Rattle.std.proofs.Math.Option.{Option, none, some}
-use Rattle.std.proofs.Math.ListN.{get_elem?}
+use Rattle.std.specs.Prelude.{ℕ, ◌-◌, cond, List, [], ◌∷◌, ◌++◌, ltb, length, take, drop, set, None, Option, Some, slice_get}
 use Rattle.lists.specs.Lay.{lay}
 
 pub record Table (A : Type 0) : Type 0 where
@@ -25,9 +23,9 @@ module _ {A : Type 0} where
   inserted i x l = take i l ++ (x ∷ drop i l)
 
   abbrev pub last_into : ℕ → List A → Option A → List A
-  last_into i l none = []
-  last_into i l (some z) = take (length l - 1) (set l i z)
+  last_into i l None = []
+  last_into i l (Some z) = take (length l - 1) (set l i z)
 
   -- the one at i is out, and the last one in its place; past the end there is none to take out
   unfoldable pub swap_remove : ℕ → List A → List A
-  swap_remove i l = cond (ltb i (length l)) (last_into i l (get_elem? l (length l - 1))) l
+  swap_remove i l = cond (ltb i (length l)) (last_into i l (slice_get l (length l - 1))) l

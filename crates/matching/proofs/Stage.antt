@@ -1,7 +1,7 @@
 -- What the stage answers, from what its parts leave. Assumes nothing.
+use Rattle.std.specs.Prelude.{Err, Ok, Result, Option}
 use mathlib.Core.Path.{◌≡◌, refl, sym, ap, ◌∙◌, subst}
 use mathlib.Core.List.{List}
-use mathlib.Core.Option.{Option}
 use Prim.Native.Nat.{ℕ, ◌*◌, ◌≤◌, min}
 use native.Mathlib.Nat.{mul-le-mul_right}
 use native.Mathlib.Omega.{arith}
@@ -19,8 +19,6 @@ use Rattle.detections.specs.declared.Detection.{Detection}
 use Rattle.detections.specs.declared.pairs.PairConfig.{PairConfig}
 use Rattle.types.specs.Refusals.{number_of, reply_of}
 use Rattle.types.specs.declared.refusal.Refusal.{Refusal}
-use Rattle.types.specs.declared.refusal.Outcome.{Outcome}
-use Rattle.types.specs.declared.refusal.Outcome.TheVariants.{Done, Refused}
 use Rattle.pairing.specs.declared.Row.{Row}
 use Rattle.pairing.specs.Rows.{ids_of, price_reply, row_costs}
 use Rattle.cost_table.specs.Table.{Tabled}
@@ -71,9 +69,9 @@ module _ (rule : PairConfig) (all : List Row) (seen : List Detection) (n m : ℕ
           unmatched = record { slots = refl; many = refl };
         }))
 
-    module _ (before : List Float) (size : length before ≡ 4096) (o : Outcome) (costs : List Float) (tabled : Tabled rule rows ds (reply_of o) before costs) where
+    module _ (before : List Float) (size : length before ≡ 4096) (o : Result (Unit {0}) Refusal) (costs : List Float) (tabled : Tabled rule rows ds (reply_of o) before costs) where
       -- a distance is refused
-      pub stage_unpriced : (why : Refusal) → o ≡ Refused why → (r : Paired) → r ≡ nothing_paired why → RowsMatch rule rows ds reply r
+      pub stage_unpriced : (why : Refusal) → o ≡ Err why → (r : Paired) → r ≡ nothing_paired why → RowsMatch rule rows ds reply r
       unfolding rows_taken
       stage_unpriced why e r q = refusal_answers why r (go (row_costs rule rows ds) refl) q
         where
@@ -84,7 +82,7 @@ module _ (rule : PairConfig) (all : List Row) (seen : List Detection) (n m : ℕ
           go (refused k) w = let z : ◌≡◌ {A = Reply (Unit {0})} (refused (number_of why)) (refused k) = is ∙ ap (λ (x : Reply (List (List Float))). and_then x (λ table. given tt)) w in cc
           go (given table) w = never_given (number_of why) tt (is ∙ ap (λ (x : Reply (List (List Float))). and_then x (λ table. given tt)) w)
 
-      module _ (e : o ≡ Done) where
+      module _ (e : o ≡ Ok tt) where
         -- the table in the array
         pub record Priced : Type 0 where
           pub table : List (List Float)
@@ -104,7 +102,7 @@ module _ (rule : PairConfig) (all : List Row) (seen : List Detection) (n m : ℕ
         priced : Priced
         priced =
             let room : n * m ≤ 64 * m = mul-le-mul_right m hn in
-            let g = table_given rule all ds before rows costs (rw (rows_long, seen_long) (omega (arith, room))) (subst (λ (q : Outcome). Tabled rule rows ds (reply_of q) before costs) e tabled) in
+            let g = table_given rule all ds before rows costs (rw (rows_long, seen_long) (omega (arith, room))) (subst (λ (q : Result (Unit {0}) Refusal). Tabled rule rows ds (reply_of q) before costs) e tabled) in
             record { table = g.0; given_table = g.1; cut = in_rows g.0 g.1 g.2 }
 
         taken : (p : Priced) → reply ≡ rows_paired rule.gate_squared_mahalanobis window now rows (rows_of n m (take (n * m) costs)) m
@@ -114,17 +112,17 @@ module _ (rule : PairConfig) (all : List Row) (seen : List Detection) (n m : ℕ
             ∙ ap (λ (k : ℕ). rows_paired rule.gate_squared_mahalanobis window now rows p.table k) seen_long
             ∙ ap (λ (table : List (List Float)). rows_paired rule.gate_squared_mahalanobis window now rows table m) (sym p.cut)
 
-        module _ (takers : List ℕ) (q : Outcome) (s : Takes m (reply_of q) takers (rows_paired rule.gate_squared_mahalanobis window now rows (rows_of n m (take (n * m) costs)) m)) where
-          ends : (x : Outcome) → q ≡ x → reply ≡ and_then (reply_of x) (λ u. given (takers_of m takers))
-          ends x w = taken priced ∙ sym s.is ∙ ap (λ (y : Outcome). and_then (reply_of y) (λ u. given (takers_of m takers))) w
+        module _ (takers : List ℕ) (q : Result (Unit {0}) Refusal) (s : Takes m (reply_of q) takers (rows_paired rule.gate_squared_mahalanobis window now rows (rows_of n m (take (n * m) costs)) m)) where
+          ends : (x : Result (Unit {0}) Refusal) → q ≡ x → reply ≡ and_then (reply_of x) (λ u. given (takers_of m takers))
+          ends x w = taken priced ∙ sym s.is ∙ ap (λ (y : Result (Unit {0}) Refusal). and_then (reply_of y) (λ u. given (takers_of m takers))) w
 
           -- a window age or the assignment is refused
-          pub stage_unpaired : (why : Refusal) → q ≡ Refused why → (r : Paired) → r ≡ nothing_paired why → RowsMatch rule rows ds reply r
-          stage_unpaired why w r h = refusal_answers why r (ends (Refused why) w) h
+          pub stage_unpaired : (why : Refusal) → q ≡ Err why → (r : Paired) → r ≡ nothing_paired why → RowsMatch rule rows ds reply r
+          stage_unpaired why w r h = refusal_answers why r (ends (Err why) w) h
 
-          pub stage_told : q ≡ Done → (ids : List ℕ) → take n ids ≡ take n (ids_of all) → (r : Paired) → Tells ids n m costs takers r → RowsMatch rule rows ds reply r
+          pub stage_told : q ≡ Ok tt → (ids : List ℕ) → take n ids ≡ take n (ids_of all) → (r : Paired) → Tells ids n m costs takers r → RowsMatch rule rows ds reply r
           stage_told w ids numbers r h =
-              subst (λ (x : Reply (List (Option ℕ))). RowsMatch rule rows ds x r) (sym (ends Done w))
+              subst (λ (x : Reply (List (Option ℕ))). RowsMatch rule rows ds x r) (sym (ends (Ok tt) w))
               (tells_answers ids numbers priced.table costs priced.given_table priced.cut takers s.long r h)
 
 -- ---- counts above 64 count as 64

@@ -1,15 +1,14 @@
 -- What the owner of a batch reads off the stage: the rest of `matchedWith` of calls, over the arrays that `pair_tracks` gives. Assumes nothing.
+use Rattle.std.specs.Prelude.{Err, Ok, None, Option, Some}
 use mathlib.Core.Path.{◌≡◌, refl, sym, ap, ◌∙◌, subst}
 use mathlib.Core.Bool.{Bool, not}
 use mathlib.Core.List.{List, [], ◌∷◌, map}
-use mathlib.Core.Option.{Option, none, some}
 use Prim.Native.Nat.{ℕ, suc}
 use native.Mathlib.Omega.{arith}
 use lib.IntN.{ℤ}
 use lib.Ieee.{Float}
 use lib.ListN.{length, take, replicate, length-map, length-take}
 use Rattle.number.specs.Reply.{Reply, refused, given, and_then}
-use Rattle.settings.specs.Optional.{i64_of}
 use Rattle.settings.specs.declared.Cartesian3DTrackerConfig.{Cartesian3DTrackerConfig}
 use Rattle.lists.specs.Masks.{left_by, zipped, count, up_from}
 use Rattle.matrix.specs.Matrix.{nought}
@@ -21,7 +20,6 @@ use Rattle.detections.specs.declared.Detection.{Detection}
 use Rattle.detections.specs.declared.pairs.PairConfig.{PairConfig}
 use Rattle.types.specs.Refusals.{number_of, reply_of}
 use Rattle.types.specs.declared.refusal.Refusal.{Refusal}
-use Rattle.types.specs.declared.refusal.Outcome.TheVariants.{Done, Refused}
 use Rattle.types.specs.declared.track.Track3D.{Track3D}
 use Rattle.lists.specs.Lay.{lay}
 use Rattle.calls.specs.Numbers.{numbers_of}
@@ -44,8 +42,8 @@ use Rattle.matching.specs.Stage.{takers_for, rows_taken, Matches, RowsMatch}
 
 paired_rows : (gate : Float) (window : Option ℤ) (now : ℤ) (ts : List Track3D) (costs : List (List Float)) (m : ℕ) → rows_paired gate window now (map row_of ts) costs m ≡ paired_in gate window now ts costs m
 unfolding rows_paired paired_in
-paired_rows gate none now ts costs m = refl
-paired_rows gate (some window) now ts costs m = ap (λ (r : Reply (List Bool)). and_then r (λ flags. cascaded gate flags costs m)) (recent_of_rows window now ts)
+paired_rows gate None now ts costs m = refl
+paired_rows gate (Some window) now ts costs m = ap (λ (r : Reply (List Bool)). and_then r (λ flags. cascaded gate flags costs m)) (recent_of_rows window now ts)
 
 taken_rows : (rule : PairConfig) (window : Option ℤ) (now : ℤ) (ts : List Track3D) (ds : List Detection) → rows_taken rule window now (map row_of ts) ds ≡ takers_for rule window now ts ds
 unfolding rows_taken takers_for
@@ -83,9 +81,9 @@ rows_matched rule window now ts ds rows r e a =
 merged_long : (a b : List (Option ℕ)) → length (both_takers a b) ≡ length a
 unfolding both_takers
 merged_long [] b = refl
-merged_long (some i ∷ a) b = ap suc (merged_long a b)
-merged_long (none ∷ a) [] = ap suc (merged_long a [])
-merged_long (none ∷ a) (o ∷ b) = ap suc (merged_long a b)
+merged_long (Some i ∷ a) b = ap suc (merged_long a b)
+merged_long (None ∷ a) [] = ap suc (merged_long a [])
+merged_long (None ∷ a) (o ∷ b) = ap suc (merged_long a b)
 
 assigned_long : (gate : Float) (rows : List (List Float)) (m : ℕ) (t : List (Option ℕ)) → assigned gate rows m ≡ given t → length t ≡ m
 unfolding assigned
@@ -103,8 +101,8 @@ cascaded_long gate flags rows m t e =
 
 paired_long : (gate : Float) (window : Option ℤ) (now : ℤ) (ts : List Track3D) (rows : List (List Float)) (m : ℕ) (t : List (Option ℕ)) → paired_in gate window now ts rows m ≡ given t → length t ≡ m
 unfolding paired_in
-paired_long gate none now ts rows m t e = assigned_long gate rows m t e
-paired_long gate (some window) now ts rows m t e = let p = bound (each (recent window now) ts) _ t e in cascaded_long gate p.0 rows m t p.2
+paired_long gate None now ts rows m t e = assigned_long gate rows m t e
+paired_long gate (Some window) now ts rows m t e = let p = bound (each (recent window now) ts) _ t e in cascaded_long gate p.0 rows m t p.2
 
 pub takers_for_long : (rule : PairConfig) (window : Option ℤ) (now : ℤ) (ts : List Track3D) (ds : List Detection) (t : List (Option ℕ)) → takers_for rule window now ts ds ≡ given t → length t ≡ length ds
 unfolding takers_for
@@ -121,7 +119,7 @@ module _ (c : Cartesian3DTrackerConfig) (sensor : ℕ) (now : ℤ) (tracks : Lis
 
   -- the stage's reply under the settings: "paired" of calls
   abbrev reply : Reply (List (Option ℕ))
-  reply = takers_for (pair_config c) (i64_of c.recent_track_window_ns) now ts ds
+  reply = takers_for (pair_config c) (c.recent_track_window_ns) now ts ds
 
   abbrev rest : List (Option ℕ) → Reply Matched
   rest takers = and_then (updates c sensor now (taken_by takers ds) ts) (λ us. given (record { tracks = us; columns = zipped (column_for (pair_config c) ts) takers ds; unmatched = unmatched_from (taken_by takers ds) 0 ts }))
@@ -135,7 +133,7 @@ module _ (c : Cartesian3DTrackerConfig) (sensor : ℕ) (now : ℤ) (tracks : Lis
       go (given rows) = refl
 
   module _ (a : Matches (pair_config c) ts ds reply r) where
-    pub stage_refused : (why : Refusal) → r.outcome ≡ Refused why → matched_with c sensor now ds ts ≡ refused (number_of why)
+    pub stage_refused : (why : Refusal) → r.outcome ≡ Err why → matched_with c sensor now ds ts ≡ refused (number_of why)
     stage_refused why e = matched_stage ∙ go reply refl
       where
         is : (x : Reply (List (Option ℕ))) → reply ≡ x → ◌≡◌ {A = Reply (Unit {0})} (refused (number_of why)) (and_then x (λ takers. given (tt {0})))
@@ -146,7 +144,7 @@ module _ (c : Cartesian3DTrackerConfig) (sensor : ℕ) (now : ℤ) (tracks : Lis
         go (given t) w = never_given (number_of why) tt (is (given t) w)
 
     -- all that is left of `matchedWith`: the updates by the mates, and what was told
-    pub stage_given : r.outcome ≡ Done
+    pub stage_given : r.outcome ≡ Ok tt
         → matched_with c sensor now ds ts
         ≡ and_then (updates c sensor now (mate_of r.mates seen) ts) (λ us. given (record { tracks = us; columns = columns_from m r.pairs seen; unmatched = take r.unmatched_count r.unmatched }))
     unfolding updates
@@ -159,7 +157,7 @@ module _ (c : Cartesian3DTrackerConfig) (sensor : ℕ) (now : ℤ) (tracks : Lis
             → and_then x rest ≡ and_then (updates c sensor now (mate_of r.mates seen) ts) (λ us. given (record { tracks = us; columns = columns_from m r.pairs seen; unmatched = take r.unmatched_count r.unmatched }))
         go (refused k) w = never_given k tt (sym (is (refused k) w))
         go (given t) w =
-            let long = takers_for_long (pair_config c) (i64_of c.recent_track_window_ns) now ts ds t w in
+            let long = takers_for_long (pair_config c) (c.recent_track_window_ns) now ts ds t w in
             let b : Matches (pair_config c) ts ds (given t) r = subst (λ (x : Reply (List (Option ℕ))). Matches (pair_config c) ts ds x r) w a in
             rw (
               columns_told (pair_config c) ts seen m sd t long r.pairs b.pairs,

@@ -1,7 +1,6 @@
 -- The pairing stage of a batch as one answer. 01, Batch: "distances of class-compatible pairs in track order, and in detection order within a track, 7, 9 not finite; 8 a window age overflows; 10 the
 -- assignment's smallest step isn't finite".
-use Rattle.std.specs.Prelude.{ℕ, ◌≡◌, List, [], map, ℤ, Float, length, take, replicate}
-use Rattle.std.proofs.Math.Option.{Option}
+use Rattle.std.specs.Prelude.{ℕ, ◌≡◌, List, [], map, ℤ, Float, length, take, replicate, Err, Ok, Option}
 use Rattle.number.specs.Reply.{Reply, refused, given, and_then, left_in}
 use Rattle.lists.specs.Lay.{lay}
 use Rattle.lists.specs.Masks.{zipped}
@@ -10,7 +9,6 @@ use Rattle.detections.specs.declared.Detection.{Detection}
 use Rattle.detections.specs.declared.pairs.PairConfig.{PairConfig}
 use Rattle.types.specs.Refusals.{reply_of}
 use Rattle.types.specs.declared.refusal.Refusal.{Refusal}
-use Rattle.types.specs.declared.refusal.Outcome.TheVariants.{Done, Refused}
 use Rattle.types.specs.declared.track.Track3D.{Track3D}
 use Rattle.assignment.specs.Taking.{takers_of}
 use Rattle.calls.specs.Pairing.{cost_table, paired_in}
@@ -67,11 +65,11 @@ RowsMatch rule rows ds reply r = Settles reply (pairs_in rule rows ds reply) (id
 
 -- a refusal
 abbrev pub nothing_paired : Refusal → Paired
-nothing_paired why = record { outcome = Refused why; mates = replicate 64 64; pairs = replicate 64 alone; unmatched = replicate 64 0; unmatched_count = 0 }
+nothing_paired why = record { outcome = Err why; mates = replicate 64 64; pairs = replicate 64 alone; unmatched = replicate 64 0; unmatched_count = 0 }
 
 -- takers and costs, as the code holds them, and what is told of them
 pub record Tells (ids : List ℕ) (n m : ℕ) (costs : List Float) (takers : List ℕ) (r : Paired) : Type 0 where
-  pub outcome : r.outcome ≡ Done
+  pub outcome : r.outcome ≡ Ok tt
   pub mates : Mates (takers_of m takers) r.mates
   pub pairs : PairsTold ids n m costs takers m r.pairs
   pub unmatched : Listed (unmatched_of (mate_of r.mates []) 0 (take n ids)) r.unmatched r.unmatched_count

@@ -1,6 +1,5 @@
 -- The rows that take the columns, as the code holds them. 01, Batch: "8 a window age overflows; 10 the assignment's smallest step isn't finite".
-use Rattle.std.specs.Prelude.{ℕ, ◌≡◌, List, ℤ, Float, length}
-use Rattle.std.proofs.Math.Option.{Option, none, some}
+use Rattle.std.specs.Prelude.{ℕ, ◌≡◌, List, ℤ, Float, length, None, Option, Some}
 use Rattle.number.specs.Reply.{Reply, given, and_then}
 use Rattle.lists.specs.Each.{each}
 use Rattle.kuhn_munkres.specs.Takers.{Takers}
@@ -11,8 +10,8 @@ use Rattle.pairing.specs.Rows.{recent_row}
 
 -- one assignment, or the cascade where a window is set: `pairedIn` of calls, of rows
 unfoldable pub rows_paired : Float → Option ℤ → ℤ → List Row → List (List Float) → ℕ → Reply Takers
-rows_paired gate none now rows costs m = assigned gate costs m
-rows_paired gate (some window) now rows costs m = and_then (each (recent_row window now) rows) (λ flags. cascaded gate flags costs m)
+rows_paired gate None now rows costs m = assigned gate costs m
+rows_paired gate (Some window) now rows costs m = and_then (each (recent_row window now) rows) (λ flags. cascaded gate flags costs m)
 
 -- the outcome with the takers of the first m columns. What a refusal leaves there is open: the array never leaves the stage.
 pub record Takes (m : ℕ) (reply : Reply (Unit {0})) (after : List ℕ) (answer : Reply (List (Option ℕ))) : Type 0 where

@@ -1,9 +1,7 @@
 // The pairing stage of a batch: the cost table, the takers of the columns, and what the updates, the births and the report are told of them.
 #![tactic(auto)]
 
-ghost use Rattle.std.specs.Prelude.{◌≡◌, ◌*◌, ◌≤◌, length, take, replicate};
-ghost use Rattle.std.proofs.Math.Option.{some};
-ghost use Rattle.settings.specs.Optional.{i64_of};
+ghost use Rattle.std.specs.Prelude.{◌≡◌, ◌*◌, ◌≤◌, length, take, replicate, Some};
 ghost use Rattle.kuhn_munkres.specs.Assignment.{rows_of};
 ghost use Rattle.types.specs.Refusals.{reply_of};
 ghost use Rattle.matching.specs.Takers.{rows_paired, Takes};
@@ -13,14 +11,13 @@ use association::Pair;
 use detections::Detection;
 use detections::pairs::PairConfig;
 use pairing::Row;
-use settings::optional::OptionalI64;
-use types::refusal::{Outcome, Refusal};
+use types::refusal::Refusal;
 use types::{MAX_OBSERVATIONS, MAX_TRACKS};
 
 // The detection of each track, by its place, with 64 for none; the pair of each detection; the numbers of the tracks that took none.
 #[derive(Clone, Copy)]
 pub struct Paired {
-    pub outcome: Outcome,
+    pub outcome: Result<(), Refusal>,
     pub mates: [usize; MAX_TRACKS],
     pub pairs: [Pair; MAX_OBSERVATIONS],
     pub unmatched: [u64; MAX_TRACKS],
@@ -37,14 +34,14 @@ fn assign_recent_first(
     gate: f64,
     window: i64,
     takers: &mut [usize; 64],
-) -> Outcome
+) -> Result<(), Refusal>
     requires { (n ≤ 64) × (m ≤ 64) × (length costs.now ≡ n * m) × (takers.old ≡ replicate 64 64) }
-    ensures { Takes m (reply_of result) takers.new (rows_paired gate (some window) time (take n rows) (rows_of n m costs.now) m) }
+    ensures { Takes m (reply_of result) takers.new (rows_paired gate (Some window) time (take n rows) (rows_of n m costs.now) m) }
 {
     let mut recent = [false; 64];
     match pairing::mark_recent(rows, n, time, window, &mut recent) {
-        Outcome::Done => cascade::pair_cascade(costs, n, m, gate, &recent, takers),
-        Outcome::Refused(why) => Outcome::Refused(why),
+        Ok(()) => cascade::pair_cascade(costs, n, m, gate, &recent, takers),
+        Err(why) => Err(why),
     }
 }
 
@@ -56,17 +53,15 @@ fn assign_columns(
     m: usize,
     time: i64,
     gate: f64,
-    window: OptionalI64,
+    window: Option<i64>,
     takers: &mut [usize; 64],
-) -> Outcome
+) -> Result<(), Refusal>
     requires { (n ≤ 64) × (m ≤ 64) × (length costs.now ≡ n * m) × (takers.old ≡ replicate 64 64) }
-    ensures { Takes m (reply_of result) takers.new (rows_paired gate (i64_of window) time (take n rows) (rows_of n m costs.now) m) }
+    ensures { Takes m (reply_of result) takers.new (rows_paired gate (window) time (take n rows) (rows_of n m costs.now) m) }
 {
     match window {
-        OptionalI64::None => cascade::pair_all(costs, n, m, gate, takers),
-        OptionalI64::Some(limit) => {
-            assign_recent_first(costs, rows, n, m, time, gate, limit, takers)
-        }
+        None => cascade::pair_all(costs, n, m, gate, takers),
+        Some(limit) => { assign_recent_first(costs, rows, n, m, time, gate, limit, takers) }
     }
 }
 
@@ -78,11 +73,11 @@ fn assign_front(
     m: usize,
     time: i64,
     gate: f64,
-    window: OptionalI64,
+    window: Option<i64>,
     takers: &mut [usize; 64],
-) -> Outcome
+) -> Result<(), Refusal>
     requires { (n ≤ 64) × (m ≤ 64) × (n * m ≤ length costs.now) × (takers.old ≡ replicate 64 64) }
-    ensures { Takes m (reply_of result) takers.new (rows_paired gate (i64_of window) time (take n rows) (rows_of n m (take (n * m) costs.now)) m) }
+    ensures { Takes m (reply_of result) takers.new (rows_paired gate (window) time (take n rows) (rows_of n m (take (n * m) costs.now)) m) }
 {
     let end = n * m;
     assign_columns(&costs[..end], rows, n, m, time, gate, window, takers)
@@ -96,7 +91,7 @@ fn refuse(why: Refusal) -> Paired
     let pairs = association::no_pairs();
     let unmatched = [0u64; MAX_TRACKS];
     Paired {
-        outcome: Outcome::Refused(why),
+        outcome: Err(why),
         mates,
         pairs,
         unmatched,
@@ -115,7 +110,7 @@ fn tell(ids: &[u64; 64], n: usize, takers: &[usize; 64], m: usize, costs: &[f64;
     let list = association::unmatched_of(ids, n, &mates);
     let unmatched = list.ids;
     Paired {
-        outcome: Outcome::Done,
+        outcome: Ok(()),
         mates,
         pairs,
         unmatched,
@@ -131,17 +126,17 @@ pub fn pair_tracks(
     m: usize,
     time: i64,
     rule: PairConfig,
-    window: OptionalI64,
+    window: Option<i64>,
 ) -> Paired
-    ensures { RowsMatch rule (take n rows) (take m seen) (rows_taken rule (i64_of window) time (take n rows) (take m seen)) result }
+    ensures { RowsMatch rule (take n rows) (take m seen) (rows_taken rule (window) time (take n rows) (take m seen)) result }
 {
     let count = tables::taken(n, MAX_TRACKS);
     let columns = tables::taken(m, MAX_OBSERVATIONS);
     let mut costs = [0.0f64; 4096];
     let mut takers = [64usize; 64];
     match cost_table::price_table(rows, count, seen, columns, rule, &mut costs) {
-        Outcome::Refused(why) => refuse(why),
-        Outcome::Done => {
+        Err(why) => refuse(why),
+        Ok(()) => {
             let gate = rule.gate_squared_mahalanobis;
             match assign_front(
                 &costs,
@@ -153,8 +148,8 @@ pub fn pair_tracks(
                 window,
                 &mut takers,
             ) {
-                Outcome::Refused(why) => refuse(why),
-                Outcome::Done => {
+                Err(why) => refuse(why),
+                Ok(()) => {
                     let ids = pairing::ids_of(rows, count);
                     tell(&ids, count, &takers, columns, &costs)
                 }

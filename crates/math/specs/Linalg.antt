@@ -1,13 +1,10 @@
 -- What the functions of `linalg` answer, in 01's numbers.
-use Rattle.std.specs.Prelude.{ℕ, cond, Float}
+use Rattle.math.specs.declared.linalg.Refusal.{Refusal}
+use Rattle.std.specs.Prelude.{ℕ, cond, Float, Err, Ok, Result}
 use Rattle.std.specs.Float.Ieee.{lt}
 use Rattle.std.specs.Float.Ieee.Scale.{finite}
 use Rattle.number.specs.Reply.{Reply, refused, given, refuse_unless, and_then}
 use Rattle.matrix.specs.Matrix.{Vector, Matrix, nought, dot}
-use Rattle.math.specs.declared.linalg.Validity.{Validity}
-use Rattle.math.specs.declared.linalg.Validity.TheVariants as validity
-use Rattle.math.specs.declared.linalg.Distance.{Distance}
-use Rattle.math.specs.declared.linalg.Distance.TheVariants as distance
 use Rattle.math.specs.Refusing.{number_of}
 use Rattle.finite.specs.Finite.{finite_vector, finite_matrix}
 use Rattle.symmetry.specs.Symmetry.{is_symmetric}
@@ -41,10 +38,10 @@ squared_distance n u s = and_then (cholesky n s) (λ l. distance_by n l u)
 
 -- ---- the answers
 
-abbrev pub reply_of_validity : Validity → Reply (Unit {0})
-reply_of_validity validity.Valid = given tt
-reply_of_validity (validity.Refused e) = refused (number_of e)
+abbrev pub reply_of_validity : Result (Unit {0}) Refusal → Reply (Unit {0})
+reply_of_validity (Ok _) = given tt
+reply_of_validity (Err e) = refused (number_of e)
 
-abbrev pub reply_of_distance : Distance → Reply Float
-reply_of_distance (distance.Squared d) = given d
-reply_of_distance (distance.Refused e) = refused (number_of e)
+abbrev pub reply_of_distance : Result Float Refusal → Reply Float
+reply_of_distance (Ok d) = given d
+reply_of_distance (Err e) = refused (number_of e)

@@ -1,7 +1,7 @@
 -- What a loop has done by index i that sifts a list and changes what is kept, by a step that may be refused: the laws of a turn, of a refusal and of the end. Generic: nothing here knows a tracker. Assumes nothing.
+use Rattle.std.specs.Prelude.{None, Option, Some}
 use mathlib.Core.Path.{◌≡◌, refl, sym, ap, ◌∙◌}
 use mathlib.Core.List.{List, [], ◌∷◌, ◌++◌, append-nil}
-use mathlib.Core.Option.{Option, none, some}
 use Prim.Native.Nat.{ℕ, suc, ◌+◌, ◌≤◌, ◌<◌}
 use native.Mathlib.Omega.{arith}
 use lib.ListN.{length, take, drop, get_or, set, length-append, take-append-drop}
@@ -39,8 +39,8 @@ sift_at g [] x r = refl
 sift_at g (w ∷ l) x r = go (g w) (sift_at g l x r)
   where
     go : (o : Option _) → sift g (l ++ (x ∷ r)) ≡ sift g l ++ kept (g x) (sift g r) → kept o (sift g (l ++ (x ∷ r))) ≡ kept o (sift g l) ++ kept (g x) (sift g r)
-    go none e = e
-    go (some y) e = ap (λ q. y ∷ q) e
+    go None e = e
+    go (Some y) e = ap (λ q. y ∷ q) e
 
 -- ---- the loop
 
@@ -66,13 +66,13 @@ module _ {A : Type 0} (g : A → Option A) (f : A → Reply A) where
   pub passed_read : (l m : List A) (i j : ℕ) (a : A) → Passed g f l m i j → get_or m i a ≡ get_or l i a
   passed_read l m i j a s = ap (λ (q : List A). get_or q i a) s.slots ∙ get_d_lay s.done l i a (omega (arith, s.count, passed_behind l m i j s))
 
-  pub passed_drop : (l m : List A) (i j : ℕ) (a : A) → Passed g f l m i j → i < length l → g (get_or m i a) ≡ none → Passed g f l m (i + 1) j
+  pub passed_drop : (l m : List A) (i j : ℕ) (a : A) → Passed g f l m i j → i < length l → g (get_or m i a) ≡ None → Passed g f l m (i + 1) j
   passed_drop l m i j a s h e =
       let more : sift g (take (i + 1) l) ≡ sift g (take i l) =
       sift_more g l i a h ∙ ap (λ (o : Option A). sift g (take i l) ++ kept o []) (ap g (sym (passed_read l m i j a s)) ∙ e) ∙ append-nil (sift g (take i l)) in
       record { done = s.done; read = omega arith; gives = rw more s.gives; count = s.count; slots = s.slots }
 
-  pub passed_keep : (l m : List A) (i j : ℕ) (a y z : A) → Passed g f l m i j → i < length l → g (get_or m i a) ≡ some y → f y ≡ given z → Passed g f l (set m j z) (i + 1) (j + 1)
+  pub passed_keep : (l m : List A) (i j : ℕ) (a y z : A) → Passed g f l m i j → i < length l → g (get_or m i a) ≡ Some y → f y ≡ given z → Passed g f l (set m j z) (i + 1) (j + 1)
   passed_keep l m i j a y z s h e d =
       let more : sift g (take (i + 1) l) ≡ sift g (take i l) ++ (y ∷ []) =
       sift_more g l i a h ∙ ap (λ (o : Option A). sift g (take i l) ++ kept o []) (ap g (sym (passed_read l m i j a s)) ∙ e) in
@@ -84,7 +84,7 @@ module _ {A : Type 0} (g : A → Option A) (f : A → Reply A) where
         slots = rw (s.slots, s.count) (set_lay s.done l z (omega (arith, s.count, passed_behind l m i j s)));
       }
 
-  pub passed_stops : (l m : List A) (n i j : ℕ) (a y : A) (k : ℕ) → Passed g f l m i j → i < n → n ≤ length l → g (get_or m i a) ≡ some y → f y ≡ refused k → each f (sift g (take n l)) ≡ refused k
+  pub passed_stops : (l m : List A) (n i j : ℕ) (a y : A) (k : ℕ) → Passed g f l m i j → i < n → n ≤ length l → g (get_or m i a) ≡ Some y → f y ≡ refused k → each f (sift g (take n l)) ≡ refused k
   passed_stops l m n i j a y k s h w e d =
       let long : length (take n l) ≡ n = length-take-le n l w in
       let front : take i (take n l) ≡ take i l = take-take i n l (omega arith) in

@@ -1,7 +1,7 @@
 -- What the loop over all tracks comes to, and what its turns say of a track's life. Assumes nothing.
+use Rattle.std.specs.Prelude.{Err, Ok, Result, None, Option, Some}
 use mathlib.Core.Path.{◌≡◌, refl, sym, ap, ◌∙◌}
 use mathlib.Core.List.{List}
-use mathlib.Core.Option.{Option, none, some}
 use Prim.Native.Nat.{ℕ, min}
 use native.Mathlib.Omega.{arith}
 use lib.IntN.{ℤ}
@@ -18,8 +18,6 @@ use Rattle.lifecycle.specs.declared.Verdict.TheVariants.{Kept, Dropped}
 use Rattle.types.specs.declared.track.Track3D.{Track3D}
 use Rattle.types.specs.declared.tracker.Cartesian3DTracker.{Cartesian3DTracker}
 use Rattle.types.specs.declared.refusal.Refusal.{Refusal}
-use Rattle.types.specs.declared.refusal.Outcome.{Outcome}
-use Rattle.types.specs.declared.refusal.Outcome.TheVariants as outcome
 use Rattle.types.specs.Refusals.{number_of, answered}
 use Rattle.types.specs.States.{tracks_of, over_tracks, with_tables, sequence_table, candidate_table}
 use Rattle.lists.specs.Each.{each}
@@ -33,24 +31,24 @@ use Rattle.moving.proofs.Passing.{Passed}
 -- ---- one track
 
 module _ (life : LifecycleConfig) (now : ℤ) (x : Track3D) (a : AgedTrack) (e : a ≡ aged_track x now life) where
-  pub life_goes_on : a.verdict ≡ Kept → continued life now x ≡ some a.track
+  pub life_goes_on : a.verdict ≡ Kept → continued life now x ≡ Some a.track
   unfolding continued aged_track advanced_of
   life_goes_on v =
       let w : (aged_of x.lifecycle now life).verdict ≡ Kept = ap (λ (b : AgedTrack). b.verdict) (sym e) ∙ v in
-      rw w (ap (λ (b : AgedTrack). some b.track) (sym e))
+      rw w (ap (λ (b : AgedTrack). Some b.track) (sym e))
 
-  pub life_ends : a.verdict ≡ Dropped → continued life now x ≡ none
+  pub life_ends : a.verdict ≡ Dropped → continued life now x ≡ None
   unfolding continued aged_track advanced_of
   life_ends v =
       let w : (aged_of x.lifecycle now life).verdict ≡ Dropped = ap (λ (b : AgedTrack). b.verdict) (sym e) ∙ v in
       rw w
 
 module _ {x : Track3D} {s : TrackStep} {reply : Reply Track3D} (a : TrackAnswers x s reply) where
-  pub step_given : s.outcome ≡ outcome.Done → reply ≡ given s.track
-  step_given e = sym a.is ∙ ap (λ (o : Outcome). answered o s.track) e
+  pub step_given : s.outcome ≡ Ok tt → reply ≡ given s.track
+  step_given e = sym a.is ∙ ap (λ (o : Result (Unit {0}) Refusal). answered o s.track) e
 
-  pub step_refuses : (why : Refusal) → s.outcome ≡ outcome.Refused why → reply ≡ refused (number_of why)
-  step_refuses why e = sym a.is ∙ ap (λ (o : Outcome). answered o s.track) e
+  pub step_refuses : (why : Refusal) → s.outcome ≡ Err why → reply ≡ refused (number_of why)
+  step_refuses why e = sym a.is ∙ ap (λ (o : Result (Unit {0}) Refusal). answered o s.track) e
 
 -- ---- both: a track that is kept is moved
 
@@ -60,42 +58,42 @@ refused_before (refused m) f n e = cc
 refused_before (given x) f n e = never_given n (f x) (sym e)
 
 module _ (life : LifecycleConfig) (q : Float) (now : ℤ) (x : Track3D) where
-  pub carry_drops : continued life now x ≡ none → given none ≡ carried life q now x
+  pub carry_drops : continued life now x ≡ None → given None ≡ carried life q now x
   unfolding carried
   carry_drops e = rw e
 
-  pub carry_moves : (y : Track3D) (r : Reply Track3D) → continued life now x ≡ some y → moved q now y ≡ r → and_then r (λ z. given (some z)) ≡ carried life q now x
+  pub carry_moves : (y : Track3D) (r : Reply Track3D) → continued life now x ≡ Some y → moved q now y ≡ r → and_then r (λ z. given (Some z)) ≡ carried life q now x
   unfolding carried
   carry_moves y r e h = rw (e, h)
 
   -- and back
-  pub drops : carried life q now x ≡ given none → continued life now x ≡ none
+  pub drops : carried life q now x ≡ given None → continued life now x ≡ None
   unfolding carried
   drops e = go (continued life now x) refl e
     where
-      go : (o : Option Track3D) → continued life now x ≡ o → carried_on q now o ≡ given none → continued life now x ≡ none
-      go none w e = w
-      go (some y) w e =
-          let p = bound (moved q now y) (λ z. given (some z)) none e in
-          let z : some p.0 ≡ none = given_same (some p.0) none p.2 in
+      go : (o : Option Track3D) → continued life now x ≡ o → carried_on q now o ≡ given None → continued life now x ≡ None
+      go None w e = w
+      go (Some y) w e =
+          let p = bound (moved q now y) (λ z. given (Some z)) None e in
+          let z : Some p.0 ≡ None = given_same (Some p.0) None p.2 in
           absurd (let k : ◌≡◌ {A = ℕ} 0 1 = cc in omega arith)
 
   pub record Moves (r : Reply Track3D) : Type 0 where
     pub aged : Track3D
-    pub goes_on : continued life now x ≡ some aged
+    pub goes_on : continued life now x ≡ Some aged
     pub moves : moved q now aged ≡ r
 
-  pub keeps : (z : Track3D) → carried life q now x ≡ given (some z) → Moves (given z)
+  pub keeps : (z : Track3D) → carried life q now x ≡ given (Some z) → Moves (given z)
   unfolding carried
   keeps z e = go (continued life now x) refl e
     where
-      go : (o : Option Track3D) → continued life now x ≡ o → carried_on q now o ≡ given (some z) → Moves (given z)
-      go none w e =
-          let k : none ≡ some z = given_same none (some z) e in
+      go : (o : Option Track3D) → continued life now x ≡ o → carried_on q now o ≡ given (Some z) → Moves (given z)
+      go None w e =
+          let k : None ≡ Some z = given_same None (Some z) e in
           absurd (let k : ◌≡◌ {A = ℕ} 0 1 = cc in omega arith)
-      go (some y) w e =
-          let p = bound (moved q now y) (λ z. given (some z)) (some z) e in
-          let k : some p.0 ≡ some z = given_same (some p.0) (some z) p.2 in
+      go (Some y) w e =
+          let p = bound (moved q now y) (λ z. given (Some z)) (Some z) e in
+          let k : Some p.0 ≡ Some z = given_same (Some p.0) (Some z) p.2 in
           let same : p.0 ≡ z = cc in
           record { aged = y; goes_on = w; moves = p.1 ∙ ap given same }
 
@@ -104,24 +102,24 @@ module _ (life : LifecycleConfig) (q : Float) (now : ℤ) (x : Track3D) where
   stops n e = go (continued life now x) refl e
     where
       go : (o : Option Track3D) → continued life now x ≡ o → carried_on q now o ≡ refused n → Moves (refused n)
-      go none w e = never_given n none (sym e)
-      go (some y) w e = record { aged = y; goes_on = w; moves = refused_before (moved q now y) some n e }
+      go None w e = never_given n None (sym e)
+      go (Some y) w e = record { aged = y; goes_on = w; moves = refused_before (moved q now y) Some n e }
 
 -- ---- the tracker
 
 module _ {t : Cartesian3DTracker} where
-  pub carries_out : {u : Cartesian3DTracker} {reply : Reply Cartesian3DTracker} → given u ≡ reply → TrackerAnswers t (record { outcome = outcome.Done; tracker = u }) reply
+  pub carries_out : {u : Cartesian3DTracker} {reply : Reply Cartesian3DTracker} → given u ≡ reply → TrackerAnswers t (record { outcome = Ok tt; tracker = u }) reply
   carries_out e = record { is = e; left = ap (λ (r : Reply Cartesian3DTracker). left_in r t) e }
 
-  pub refuses : {why : Refusal} {reply : Reply Cartesian3DTracker} → refused (number_of why) ≡ reply → TrackerAnswers t (record { outcome = outcome.Refused why; tracker = t }) reply
+  pub refuses : {why : Refusal} {reply : Reply Cartesian3DTracker} → refused (number_of why) ≡ reply → TrackerAnswers t (record { outcome = Err why; tracker = t }) reply
   refuses e = record { is = e; left = ap (λ (r : Reply Cartesian3DTracker). left_in r t) e }
 
 module _ {t : Cartesian3DTracker} {s : TrackerStep} {reply : Reply Cartesian3DTracker} (a : TrackerAnswers t s reply) where
-  pub call_given : s.outcome ≡ outcome.Done → reply ≡ given s.tracker
-  call_given e = sym a.is ∙ ap (λ (o : Outcome). answered o s.tracker) e
+  pub call_given : s.outcome ≡ Ok tt → reply ≡ given s.tracker
+  call_given e = sym a.is ∙ ap (λ (o : Result (Unit {0}) Refusal). answered o s.tracker) e
 
-  pub call_refuses : (why : Refusal) → s.outcome ≡ outcome.Refused why → reply ≡ refused (number_of why)
-  call_refuses why e = sym a.is ∙ ap (λ (o : Outcome). answered o s.tracker) e
+  pub call_refuses : (why : Refusal) → s.outcome ≡ Err why → reply ≡ refused (number_of why)
+  call_refuses why e = sym a.is ∙ ap (λ (o : Result (Unit {0}) Refusal). answered o s.tracker) e
 
 module _ (s : Cartesian3DTracker) (now : ℤ) (n : ℕ) (size : length s.tracks ≡ 64) (taken : n ≡ min s.track_count 64) where
   abbrev goes_on : Track3D → Option Track3D

@@ -1,9 +1,7 @@
 -- What a step on one track answers, and a track as a time leaves it.
-use Rattle.std.specs.Prelude.{◌≡◌, ℤ, Float}
-use Rattle.std.proofs.Math.Option.{Option, none, some}
+use Rattle.std.specs.Prelude.{◌≡◌, ℤ, Float, None, Option, Some}
 use Rattle.number.specs.Reply.{Reply, refused, given, and_then, left_in}
 use Rattle.lifecycle.specs.Lifecycle.{aged_of}
-use Rattle.lifecycle.specs.declared.Observation.TheVariants.{At}
 use Rattle.lifecycle.specs.declared.Verdict.{Verdict}
 use Rattle.lifecycle.specs.declared.LifecycleConfig.{LifecycleConfig}
 use Rattle.types.specs.declared.track.Track3D.{Track3D}
@@ -37,15 +35,15 @@ aged_track t at life = aged_with (with_lifecycle (aged_of t.lifecycle at life).l
 
 -- 01, Predict: "for each track that the lifecycle keeps": none where it drops the track, and the track at the time where it keeps it
 abbrev pub carried_on : Float → ℤ → Option Track3D → Reply (Option Track3D)
-carried_on q now none = given none
-carried_on q now (some t) = and_then (moved q now t) (λ u. given (some u))
+carried_on q now None = given None
+carried_on q now (Some t) = and_then (moved q now t) (λ u. given (Some u))
 
 unfoldable pub carried : LifecycleConfig → Float → ℤ → Track3D → Reply (Option Track3D)
 carried life q now t = carried_on q now (continued life now t)
 
 abbrev pub fate_of : Fate → Track3D → Reply (Option Track3D)
-fate_of Dropped t = given none
-fate_of Kept t = given (some t)
+fate_of Dropped t = given None
+fate_of Kept t = given (Some t)
 fate_of (Refused why) t = refused (number_of why)
 
 -- the tracker with its tracks at a time; what stands behind their count is as it was
@@ -58,7 +56,7 @@ with_time now s =
       tracks = s.tracks;
       track_count = s.track_count;
       next_track_id = s.next_track_id;
-      last_time = At now;
+      last_time = Some now;
       sequences = s.sequences;
       sequence_count = s.sequence_count;
       candidates = s.candidates;

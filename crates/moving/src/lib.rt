@@ -8,24 +8,23 @@ ghost use Rattle.types.specs.Track.{with_filter, with_timestamp};
 ghost use Rattle.calls.specs.Predict.{moved_by, moved};
 ghost use Rattle.moving.specs.Steps.{TrackAnswers, TrackerAnswers, aged_with, aged_track, fate_of, carried, moved_tracks, with_time};
 
-use lifecycle::{LifecycleConfig, Observation, Verdict};
-use number::time::Duration;
+use lifecycle::{LifecycleConfig, Verdict};
 use types::MAX_TRACKS;
-use types::refusal::{Outcome, Refusal};
+use types::refusal::Refusal;
 use types::track::Track3D;
 use types::tracker::Cartesian3DTracker;
 
 // Whether a step on a track was carried out, and the track after it, as it was where the step is refused.
 #[derive(Clone, Copy)]
 pub struct TrackStep {
-    pub outcome: Outcome,
+    pub outcome: Result<(), Refusal>,
     pub track: Track3D,
 }
 
 // The same for the whole tracker.
 #[derive(Clone, Copy)]
 pub struct TrackerStep {
-    pub outcome: Outcome,
+    pub outcome: Result<(), Refusal>,
     pub tracker: Cartesian3DTracker,
 }
 
@@ -57,12 +56,12 @@ fn keep(x: Track3D, step: filter::Step, time: i64) -> TrackStep
     let outcome = step.outcome;
     let filter = step.filter;
     match outcome {
-        filter::Outcome::Done => TrackStep {
-            outcome: Outcome::Done,
+        Ok(()) => TrackStep {
+            outcome: Ok(()),
             track: types::track::with_state_timestamp(types::track::with_filter(x, filter), time),
         },
-        filter::Outcome::Refused(why) => TrackStep {
-            outcome: Outcome::Refused(types::refusal::of_matrix(why)),
+        Err(why) => TrackStep {
+            outcome: Err(types::refusal::of_matrix(why)),
             track: x,
         },
     }
@@ -86,16 +85,16 @@ pub fn move_track(x: Track3D, time: i64, density: f64) -> TrackStep
 {
     if x.state_timestamp == time {
         return TrackStep {
-            outcome: Outcome::Done,
+            outcome: Ok(()),
             track: x,
         };
     }
     match number::time::checked_duration_since(time, x.state_timestamp) {
-        Duration::Overflow => TrackStep {
-            outcome: Outcome::Refused(Refusal::TimestampOverflow),
+        None => TrackStep {
+            outcome: Err(Refusal::TimestampOverflow),
             track: x,
         },
-        Duration::Nanoseconds(dt) => move_by(x, dt, time, density),
+        Some(dt) => move_by(x, dt, time, density),
     }
 }
 
@@ -131,11 +130,11 @@ pub fn carry(x: Track3D, time: i64, life: LifecycleConfig, density: f64) -> Carr
             let outcome = step.outcome;
             let track = step.track;
             match outcome {
-                Outcome::Refused(why) => Carried {
+                Err(why) => Carried {
                     fate: Fate::Refused(why),
                     track,
                 },
-                Outcome::Done => Carried {
+                Ok(()) => Carried {
                     fate: Fate::Kept,
                     track,
                 },
@@ -154,25 +153,19 @@ pub fn move_tracks(s: Cartesian3DTracker, time: i64) -> TrackerStep
     let n = tables::taken(s.track_count, MAX_TRACKS);
     let mut tracks = s.tracks;
     let mut kept: usize = 0;
-    let mut i: usize = 0;
-    while i < n {
+    for i in 0..n {
         let c = carry(tracks[i], time, life, density);
-        let fate = c.fate;
-        let y = c.track;
-        match fate {
-            Fate::Dropped => {
-                i += 1;
-            }
+        match c.fate {
+            Fate::Dropped => {}
             Fate::Refused(why) => {
                 return TrackerStep {
-                    outcome: Outcome::Refused(why),
+                    outcome: Err(why),
                     tracker: s,
                 };
             }
             Fate::Kept => {
-                tracks[kept] = y;
+                tracks[kept] = c.track;
                 kept += 1;
-                i += 1;
             }
         }
     }
@@ -180,28 +173,17 @@ pub fn move_tracks(s: Cartesian3DTracker, time: i64) -> TrackerStep
     moved.tracks = tracks;
     moved.track_count = kept;
     TrackerStep {
-        outcome: Outcome::Done,
+        outcome: Ok(()),
         tracker: moved,
     }
 }
 
-// The tracker with the last time that it has seen. A field that is an enum can't be stored to, so it is built anew.
+// The tracker with the last time that it has seen.
 pub fn with_time(s: Cartesian3DTracker, time: i64) -> Cartesian3DTracker
     ensures { result ≡ with_time time s }
 {
-    let tracks = s.tracks;
-    let sequences = s.sequences;
-    let candidates = s.candidates;
-    let config = s.config;
     Cartesian3DTracker {
-        tracks,
-        track_count: s.track_count,
-        next_track_id: s.next_track_id,
-        last_time: Observation::At(time),
-        sequences,
-        sequence_count: s.sequence_count,
-        candidates,
-        candidate_count: s.candidate_count,
-        config,
+        last_time: Some(time),
+        ..s
     }
 }

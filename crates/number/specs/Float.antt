@@ -1,16 +1,12 @@
 -- Choices on binary64 numbers, as IEEE 754 has the values. Whether a number is finite is `lib.Ieee.Scale.finite`.
 use Rattle.std.specs.Prelude.{false, cond, from_bits}
-use lib.Ieee.{Float, nan, inf, fin, binary64, lt, eq}
+use lib.Ieee.{Float, nan, inf, fin, binary64, lt}
 
 -- 01, Matrix: "the largest |m|". The sign goes, a zero's too; a NaN stays one.
 abbrev pub absolute_of : Float → Float
 absolute_of nan = nan
 absolute_of (inf s) = inf false
 absolute_of (fin s m e) = fin false m e
-
--- x, and +0 for a zero of either sign
-abbrev pub plain_zero : Float → Float
-plain_zero x = cond (eq x (from_bits binary64 0)) (from_bits binary64 0) x
 
 -- the larger of two; the first on a tie, and where the second is a NaN
 abbrev pub larger_of : Float → Float → Float

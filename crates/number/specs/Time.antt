@@ -1,11 +1,9 @@
 -- Times and durations in nanoseconds, over the integers.
-use Rattle.std.specs.Prelude.{◌^◌, Bool, false, cond, ℤ, pos, negsuc, ◌-ℤ◌, ◌==◌, from_bits, nat_lt, Float}
+use Rattle.std.specs.Prelude.{◌^◌, Bool, false, cond, ℤ, pos, negsuc, ◌-ℤ◌, ◌==◌, from_bits, nat_lt, Float, None, Option, Some}
 use Rattle.std.specs.Int.Signed.{mag}
 use Rattle.std.specs.Float.{binary64}
 use Rattle.std.specs.Float.Ieee.{div, of_int}
 use Rattle.number.specs.Reply.{Reply, refused, given}
-use Rattle.number.specs.declared.time.Duration.{Duration}
-use Rattle.number.specs.declared.time.Duration.TheVariants.{Nanoseconds, Overflow}
 
 -- 01, Number and root: "Nanoseconds become seconds by one rounding to binary64 and one division by 1,000,000,000."
 abbrev pub seconds_of : ℤ → Float
@@ -15,9 +13,9 @@ seconds_of n = div binary64 (of_int binary64 n) (from_bits binary64 0x41cd_cd65_
 unfoldable pub duration_reply : ℤ → ℤ → Reply ℤ
 duration_reply now earlier = cond (nat_lt (mag (now -ℤ earlier)) (2 ^ 63)) (given (now -ℤ earlier)) (refused 8)
 
-abbrev pub reply_of_duration : Duration → Reply ℤ
-reply_of_duration (Nanoseconds d) = given d
-reply_of_duration Overflow = refused 8
+abbrev pub reply_of_duration : Option ℤ → Reply ℤ
+reply_of_duration (Some d) = given d
+reply_of_duration None = refused 8
 
 -- 01, Lifecycle: "Age is now minus last observation (or creation); a negative or overflowing age counts as 0."
 abbrev pub counted : Reply ℤ → ℤ

@@ -2,13 +2,6 @@
 ghost use Rattle.std.specs.Prelude.{◌≡◌, ◌+◌, ◌-◌, ◌^◌, min};
 ghost use Rattle.number.specs.Time.{seconds_of, duration_reply, reply_of_duration, age_of};
 
-// A difference of two times, or the overflow of one that an i64 does not hold.
-#[derive(Clone, Copy)]
-pub enum Duration {
-    Nanoseconds(i64),
-    Overflow,
-}
-
 // Nanoseconds as seconds.
 pub fn seconds(nanoseconds: i64) -> f64
     ensures { result ≡ seconds_of nanoseconds }
@@ -17,19 +10,19 @@ pub fn seconds(nanoseconds: i64) -> f64
 }
 
 // now - earlier, where an i64 holds it. Each branch compares before it subtracts.
-pub fn checked_duration_since(now: i64, earlier: i64) -> Duration
+pub fn checked_duration_since(now: i64, earlier: i64) -> Option<i64>
     ensures { reply_of_duration result ≡ duration_reply now earlier }
 {
     if earlier < 0 {
         if 9223372036854775807 + earlier < now {
-            Duration::Overflow
+            None
         } else {
-            Duration::Nanoseconds(now - earlier)
+            Some(now - earlier)
         }
     } else if now < -9223372036854775808 + earlier {
-        Duration::Overflow
+        None
     } else {
-        Duration::Nanoseconds(now - earlier)
+        Some(now - earlier)
     }
 }
 
@@ -38,8 +31,8 @@ pub fn age(now: i64, since: i64) -> i64
     ensures { result ≡ age_of now since }
 {
     match checked_duration_since(now, since) {
-        Duration::Nanoseconds(d) => { if d < 0 { 0 } else { d } }
-        Duration::Overflow => 0,
+        Some(d) => d.max(0),
+        None => 0,
     }
 }
 
@@ -47,5 +40,5 @@ pub fn age(now: i64, since: i64) -> i64
 pub fn next_count(count: u32) -> u32
     ensures { result ≡ min (count + 1) (2 ^ 32 - 1) }
 {
-    if count < 4294967295 { count + 1 } else { count }
+    count.saturating_add(1)
 }

@@ -1,162 +1,153 @@
-// What a measurement sees of a state: the products with its matrix H, which selects items. Of a plain covariance they are read off, bit for bit what the products give; else they are worked out.
+// What a measurement sees of a state: the products with its matrix H, which selects N items from FROM on. Of a plain covariance they are read off, bit for bit what the products give; else they are worked out.
 #![tactic(auto)]
 
-ghost use Rattle.std.specs.Prelude.{◌≡◌};
-ghost use Rattle.matrix.specs.Matrix.{row_times, product, times_vector, transposed, congruence};
+ghost use Rattle.std.specs.Prelude.{◌≡◌, ◌<◌, ◌≤◌, ◌+◌};
+ghost use Rattle.std.specs.Float.{binary64};
+ghost use Rattle.std.specs.Float.Ieee.{add, mul};
+ghost use Rattle.matrix.specs.Matrix.{item, row, tabulate, nought, sum_of, row_times, product, times_vector, transposed, congruence};
 ghost use Rattle.models.specs.Models.{selection};
-ghost use Rattle.selected.specs.Units.{read_row, read_rows};
+ghost use Rattle.selected.specs.Units.{unit_at, unit_vector, read_row, read_rows};
+
+use std::array::from_fn;
 
 // The row x times the transpose of H.
-fn position_in(x: [f64; 6]) -> [f64; 3]
-    ensures { result ≡ row_times 6 3 x (transposed 3 6 (selection 3 6 0)) }
+fn row_worked<const N: usize, const FROM: usize>(x: [f64; 6]) -> [f64; N]
+    requires { N + FROM ≤ 6 }
+    ensures { result ≡ row_times 6 N x (transposed N 6 (selection N 6 FROM)) }
 {
-    [
-        selected::seen(x, 0),
-        selected::seen(x, 1),
-        selected::seen(x, 2),
-    ]
+    from_fn(
+        |k| -> f64
+            requires { k + FROM < 6 }
+            ensures { result ≡ sum_of 6 (λ j. mul binary64 (item x j) (unit_at (k + FROM) j)) }
+        { selected::seen(x, k + FROM) },
+    )
 }
 
 // The items of x that H selects. Adding 0 makes a -0 a +0, as the products do.
-fn position_read(x: [f64; 6]) -> [f64; 3]
-    ensures { result ≡ read_row 3 0 x }
+fn row_read<const N: usize, const FROM: usize>(x: [f64; 6]) -> [f64; N]
+    requires { N + FROM ≤ 6 }
+    ensures { result ≡ read_row N FROM x }
 {
-    [x[0] + 0.0, x[1] + 0.0, x[2] + 0.0]
+    from_fn(
+        |k| -> f64
+            requires { k + FROM < 6 }
+            ensures { result ≡ add binary64 (item x (k + FROM)) nought }
+        { x[k + FROM] + 0.0 },
+    )
+}
+
+// (H P) Hᵀ: read off, and worked out.
+fn spread_read<const N: usize, const FROM: usize>(p: [[f64; 6]; 6]) -> [[f64; N]; N]
+    requires { N + FROM ≤ 6 }
+    ensures { result ≡ tabulate N (λ i. read_row N FROM (row p (i + FROM))) }
+{
+    from_fn(
+        |i| -> [f64; N]
+            requires { (i + FROM < 6) × (N + FROM ≤ 6) }
+            ensures { result ≡ read_row N FROM (row p (i + FROM)) }
+        { row_read::<N, FROM>(p[i + FROM]) },
+    )
+}
+
+fn spread_worked<const N: usize, const FROM: usize>(p: [[f64; 6]; 6]) -> [[f64; N]; N]
+    requires { N + FROM ≤ 6 }
+    ensures { result ≡ congruence N 6 (selection N 6 FROM) p }
+{
+    from_fn(
+        |i| -> [f64; N]
+            requires { (i + FROM < 6) × (N + FROM ≤ 6) }
+            ensures { result ≡ row_times 6 N (row_times 6 6 (unit_vector 6 (i + FROM)) p) (transposed N 6 (selection N 6 FROM)) }
+        { row_worked::<N, FROM>(selected::row_seen(p, i + FROM)) },
+    )
+}
+
+// (H P) Hᵀ.
+fn spread<const N: usize, const FROM: usize>(p: [[f64; 6]; 6]) -> [[f64; N]; N]
+    requires { N + FROM ≤ 6 }
+    ensures { result ≡ congruence N 6 (selection N 6 FROM) p }
+{
+    if selected::is_plain(p) {
+        spread_read::<N, FROM>(p)
+    } else {
+        spread_worked::<N, FROM>(p)
+    }
+}
+
+// P Hᵀ: read off, and worked out.
+fn cross_read<const N: usize, const FROM: usize>(p: [[f64; 6]; 6]) -> [[f64; N]; 6]
+    requires { N + FROM ≤ 6 }
+    ensures { result ≡ read_rows N FROM 6 p }
+{
+    from_fn(
+        |i| -> [f64; N]
+            requires { (i < 6) × (N + FROM ≤ 6) }
+            ensures { result ≡ read_row N FROM (row p i) }
+        { row_read::<N, FROM>(p[i]) },
+    )
+}
+
+fn cross_worked<const N: usize, const FROM: usize>(p: [[f64; 6]; 6]) -> [[f64; N]; 6]
+    requires { N + FROM ≤ 6 }
+    ensures { result ≡ product 6 6 N p (transposed N 6 (selection N 6 FROM)) }
+{
+    from_fn(
+        |i| -> [f64; N]
+            requires { (i < 6) × (N + FROM ≤ 6) }
+            ensures { result ≡ row_times 6 N (row p i) (transposed N 6 (selection N 6 FROM)) }
+        { row_worked::<N, FROM>(p[i]) },
+    )
+}
+
+// P Hᵀ.
+fn cross<const N: usize, const FROM: usize>(p: [[f64; 6]; 6]) -> [[f64; N]; 6]
+    requires { N + FROM ≤ 6 }
+    ensures { result ≡ product 6 6 N p (transposed N 6 (selection N 6 FROM)) }
+{
+    if selected::is_plain(p) {
+        cross_read::<N, FROM>(p)
+    } else {
+        cross_worked::<N, FROM>(p)
+    }
 }
 
 // The position in a state: H x.
 pub fn position(x: [f64; 6]) -> [f64; 3]
     ensures { result ≡ times_vector 3 6 (selection 3 6 0) x }
 {
-    position_in(x)
+    row_worked::<3, 0>(x)
 }
 
 // The covariance of the position: (H P) Hᵀ.
 pub fn position_spread(p: [[f64; 6]; 6]) -> [[f64; 3]; 3]
     ensures { result ≡ congruence 3 6 (selection 3 6 0) p }
 {
-    if selected::is_plain(p) {
-        [
-            position_read(p[0]),
-            position_read(p[1]),
-            position_read(p[2]),
-        ]
-    } else {
-        [
-            position_in(selected::row_seen(p, 0)),
-            position_in(selected::row_seen(p, 1)),
-            position_in(selected::row_seen(p, 2)),
-        ]
-    }
-}
-
-// The covariance of the state with the position, P Hᵀ: read off, and worked out.
-fn position_cross_read(p: [[f64; 6]; 6]) -> [[f64; 3]; 6]
-    ensures { result ≡ read_rows 3 0 6 p }
-{
-    [
-        position_read(p[0]),
-        position_read(p[1]),
-        position_read(p[2]),
-        position_read(p[3]),
-        position_read(p[4]),
-        position_read(p[5]),
-    ]
-}
-
-fn position_cross_worked(p: [[f64; 6]; 6]) -> [[f64; 3]; 6]
-    ensures { result ≡ product 6 6 3 p (transposed 3 6 (selection 3 6 0)) }
-{
-    [
-        position_in(p[0]),
-        position_in(p[1]),
-        position_in(p[2]),
-        position_in(p[3]),
-        position_in(p[4]),
-        position_in(p[5]),
-    ]
+    spread::<3, 0>(p)
 }
 
 // The covariance of the state with the position: P Hᵀ.
 pub fn position_cross(p: [[f64; 6]; 6]) -> [[f64; 3]; 6]
     ensures { result ≡ product 6 6 3 p (transposed 3 6 (selection 3 6 0)) }
 {
-    if selected::is_plain(p) {
-        position_cross_read(p)
-    } else {
-        position_cross_worked(p)
-    }
-}
-
-// The row x times the transpose of H.
-fn velocity_in(x: [f64; 6]) -> [f64; 2]
-    ensures { result ≡ row_times 6 2 x (transposed 2 6 (selection 2 6 3)) }
-{
-    [selected::seen(x, 3), selected::seen(x, 4)]
-}
-
-// The items of x that H selects. Adding 0 makes a -0 a +0, as the products do.
-fn velocity_read(x: [f64; 6]) -> [f64; 2]
-    ensures { result ≡ read_row 2 3 x }
-{
-    [x[3] + 0.0, x[4] + 0.0]
+    cross::<3, 0>(p)
 }
 
 // The velocity along x and y in a state: H x.
 pub fn velocity(x: [f64; 6]) -> [f64; 2]
     ensures { result ≡ times_vector 2 6 (selection 2 6 3) x }
 {
-    velocity_in(x)
+    row_worked::<2, 3>(x)
 }
 
 // The covariance of the velocity along x and y: (H P) Hᵀ.
 pub fn velocity_spread(p: [[f64; 6]; 6]) -> [[f64; 2]; 2]
     ensures { result ≡ congruence 2 6 (selection 2 6 3) p }
 {
-    if selected::is_plain(p) {
-        [velocity_read(p[3]), velocity_read(p[4])]
-    } else {
-        [
-            velocity_in(selected::row_seen(p, 3)),
-            velocity_in(selected::row_seen(p, 4)),
-        ]
-    }
-}
-
-// The covariance of the state with the velocity along x and y, P Hᵀ: read off, and worked out.
-fn velocity_cross_read(p: [[f64; 6]; 6]) -> [[f64; 2]; 6]
-    ensures { result ≡ read_rows 2 3 6 p }
-{
-    [
-        velocity_read(p[0]),
-        velocity_read(p[1]),
-        velocity_read(p[2]),
-        velocity_read(p[3]),
-        velocity_read(p[4]),
-        velocity_read(p[5]),
-    ]
-}
-
-fn velocity_cross_worked(p: [[f64; 6]; 6]) -> [[f64; 2]; 6]
-    ensures { result ≡ product 6 6 2 p (transposed 2 6 (selection 2 6 3)) }
-{
-    [
-        velocity_in(p[0]),
-        velocity_in(p[1]),
-        velocity_in(p[2]),
-        velocity_in(p[3]),
-        velocity_in(p[4]),
-        velocity_in(p[5]),
-    ]
+    spread::<2, 3>(p)
 }
 
 // The covariance of the state with the velocity along x and y: P Hᵀ.
 pub fn velocity_cross(p: [[f64; 6]; 6]) -> [[f64; 2]; 6]
     ensures { result ≡ product 6 6 2 p (transposed 2 6 (selection 2 6 3)) }
 {
-    if selected::is_plain(p) {
-        velocity_cross_read(p)
-    } else {
-        velocity_cross_worked(p)
-    }
+    cross::<2, 3>(p)
 }

@@ -1,8 +1,8 @@
 -- The loop over a batch's detections: what the births of the first j columns left in the record's tracks, in the candidates and in what is told. Assumes nothing.
+use Rattle.std.specs.Prelude.{None, Some}
 use mathlib.Core.Path.{◌≡◌, refl, sym, ap, ◌∙◌}
 use mathlib.Core.Bool.{true, false}
 use mathlib.Core.List.{List, [], ◌∷◌, ◌++◌, map}
-use mathlib.Core.Option.{none, some}
 use Prim.Native.Nat.{ℕ, suc, ◌+◌, ◌≤◌, ◌<◌}
 use native.Mathlib.Omega.{arith}
 use native.Mathlib.Numerals.{add-one}
@@ -87,7 +87,7 @@ module _ (config : Cartesian3DTrackerConfig) (sensor : ℕ) (now : ℤ) (places 
       unfolding born_unless_taken
       bearing_taken x q z =
           let t : Match = record { track = p.track; cost = p.cost } in
-          let e2 : column.pair ≡ some t = ap (λ (v : Column). v.pair) e ∙ rw q in
+          let e2 : column.pair ≡ Some t = ap (λ (v : Column). v.pair) e ∙ rw q in
           more (record { state = w.so_far.state; fate = updated t }) m n id kept x (rw e2) w.tracks w.count w.next w.candidates z
 
       module _ (free : p.taken ≡ false) where
@@ -97,19 +97,19 @@ module _ (config : Cartesian3DTrackerConfig) (sensor : ℕ) (now : ℤ) (places 
         born_by : (r : Reply One) → one ≡ r → born ≡ and_then r (λ o. given (born_with w.so_far.state o.candidates o.track))
         unfolding born_unless_taken
         born_by r q =
-            let e2 : column.pair ≡ none = ap (λ (v : Column). v.pair) e ∙ rw free in
+            let e2 : column.pair ≡ None = ap (λ (v : Column). v.pair) e ∙ rw free in
             let e3 : column.detection ≡ d = ap (λ (v : Column). v.detection) e in
             let same : one_of config sensor now (low_score config d) (near_confirmed config places d) d (length w.so_far.state.tracks) w.so_far.state.next w.so_far.state.candidates ≡ r =
             rw (← w.count, ← w.next, w.candidates) q in
             rw (e2, e3) (one_born config sensor now (low_score config d) (near_confirmed config places d) d w.so_far.state
             ∙ ap (λ (r : Reply One). and_then r (λ o. given (born_with w.so_far.state o.candidates o.track))) same)
 
-        pub bearing_alone : (u : Candidates) (x : ObservationAssociation) → one ≡ given (record { candidates = list_of u; track = none }) → x ≡ association_of j unmatched → Bearing m n id u (set told j x) (j + 1)
+        pub bearing_alone : (u : Candidates) (x : ObservationAssociation) → one ≡ given (record { candidates = list_of u; track = None }) → x ≡ association_of j unmatched → Bearing m n id u (set told j x) (j + 1)
         unfolding born_with
         bearing_alone u x q z =
             more (record { state = with_candidates (list_of u) w.so_far.state; fate = unmatched }) m n id u x (born_by _ q) w.tracks w.count w.next refl z
 
-        pub bearing_begun : (u : Candidates) (y : Track3D) (x : ObservationAssociation) → n < length l → one ≡ given (record { candidates = list_of u; track = some y }) → x ≡ association_of j (spawned id)
+        pub bearing_begun : (u : Candidates) (y : Track3D) (x : ObservationAssociation) → n < length l → one ≡ given (record { candidates = list_of u; track = Some y }) → x ≡ association_of j (spawned id)
             → Bearing (set m n (track_to y)) (n + 1) (id + 1) u (set told j x) (j + 1)
         unfolding born_with
         bearing_begun u y x room q z =

@@ -1,7 +1,7 @@
 -- The loop that moves the tracks of the record: what it has done by track i, or the refusal that it ended with. Assumes nothing.
+use Rattle.std.specs.Prelude.{None, Option, Some}
 use mathlib.Core.Path.{◌≡◌, refl, sym, ap, ◌∙◌}
 use mathlib.Core.List.{List, map}
-use mathlib.Core.Option.{Option, none, some}
 use Prim.Native.Nat.{ℕ, min, ◌+◌, ◌≤◌, ◌<◌}
 use native.Mathlib.Omega.{arith}
 use lib.IntN.{ℤ}
@@ -50,12 +50,12 @@ module _ (life : LifecycleConfig) (q : Float) (now : ℤ) where
     still (ended e above r) = absurd (omega arith)
 
     module _ (s : Carrying l m i j all start code) where
-      pub carrying_drop : carried life q now (track_of (get_or m i a)) ≡ given none → Carrying l m (i + 1) j all start code
+      pub carrying_drop : carried life q now (track_of (get_or m i a)) ≡ given None → Carrying l m (i + 1) j all start code
       carrying_drop e =
           let w = still s in
           going w.0 (passed_drop keeps_pk moves_pk l m i j a w.1 (omega arith) (ap (kept_as track_of track_to) (drops life q now (track_of (get_or m i a)) e)))
 
-      pub carrying_keep : (z : Track3D) → carried life q now (track_of (get_or m i a)) ≡ given (some z) → Carrying l (set m j (track_to z)) (i + 1) (j + 1) all start code
+      pub carrying_keep : (z : Track3D) → carried life q now (track_of (get_or m i a)) ≡ given (Some z) → Carrying l (set m j (track_to z)) (i + 1) (j + 1) all start code
       carrying_keep z e =
           let w = still s in
           let k = keeps life q now (track_of (get_or m i a)) z e in

@@ -1,8 +1,8 @@
 -- The loop of a batch that updates the tracks of the record, and gathers the places of those that are confirmed then. Assumes nothing.
+use Rattle.std.specs.Prelude.{None, Option, Some}
 use mathlib.Core.Path.{◌≡◌, refl, sym, ap, ◌∙◌}
 use mathlib.Core.Bool.{Bool, true, false, cond}
 use mathlib.Core.List.{List, [], ◌∷◌, ◌++◌, map, append-nil}
-use mathlib.Core.Option.{Option, none, some}
 use Prim.Native.Nat.{ℕ, ◌+◌, ◌≤◌, ◌<◌}
 use native.Mathlib.Omega.{arith}
 use borrow.Author.Tests.{ltb-true}
@@ -78,10 +78,10 @@ module _ (u : Update) (took : ℕ → Option Detection) where
   steps_pk i a = stored_as track_of track_to (updated_or_not u (track_of a) (took i))
 
   -- what the code reads of the detections: the first one where the track took none, which is then left alone
-  pub took_read : (j : ℕ) (ds : List Detection) (d : Detection) → cond (ltb j 64) (some (get_or ds (cond (ltb j 64) j 0) d)) none ≡ cond (ltb j 64) (some (get_or ds j d)) none
+  pub took_read : (j : ℕ) (ds : List Detection) (d : Detection) → cond (ltb j 64) (Some (get_or ds (cond (ltb j 64) j 0) d)) None ≡ cond (ltb j 64) (Some (get_or ds j d)) None
   took_read j ds d = go (ltb j 64)
     where
-      go : (b : Bool) → cond b (some (get_or ds (cond b j 0) d)) none ≡ cond b (some (get_or ds j d)) none
+      go : (b : Bool) → cond b (Some (get_or ds (cond b j 0) d)) None ≡ cond b (Some (get_or ds j d)) None
       go true = refl
       go false = refl
 

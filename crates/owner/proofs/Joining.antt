@@ -1,9 +1,8 @@
 -- What the three loops of a batch hand to each other, and what the whole answers. Assumes nothing.
+use Rattle.std.specs.Prelude.{Ok, Option, Some}
 use mathlib.Core.Path.{◌≡◌, refl, sym, ap, subst, ◌∙◌}
-use mathlib.Core.Bool.{false}
 use mathlib.Core.List.{List, [], ◌∷◌, ◌++◌, map}
-use mathlib.Core.Option.{Option, some}
-use Prim.Native.Nat.{ℕ, min, ◌+◌, ◌≤◌, ◌<◌}
+use Prim.Native.Nat.{ℕ, ◌+◌, ◌≤◌, ◌<◌}
 use native.Mathlib.Omega.{arith}
 use lib.IntN.{ℤ}
 use lib.ListN.{length, take, set, replicate, length-map}
@@ -17,13 +16,11 @@ use Rattle.detections.specs.declared.Detection.{Detection}
 use Rattle.types.specs.declared.batch.ObservationBatch3D.{ObservationBatch3D}
 use Rattle.types.specs.declared.batch.BatchReport3D.{BatchReport3D}
 use Rattle.types.specs.declared.refusal.Refusal.{Refusal}
-use Rattle.types.specs.declared.refusal.Outcome.TheVariants as outcome
 use Rattle.types.specs.declared.track.Track3D.{Track3D}
 use Rattle.types.specs.declared.tracker.BirthCandidate.{BirthCandidate}
 use Rattle.types.specs.Refusals.{number_of}
-use Rattle.types.specs.Track.{with_mark}
 use Rattle.types.specs.Batches.{whole_report}
-use Rattle.types.specs.States.{State, state_of, sequences_of, candidates_of, time_of}
+use Rattle.types.specs.States.{State, state_of, sequences_of, candidates_of}
 use Rattle.batches.specs.Check.{batch_reply}
 use Rattle.calls.specs.Predict.{at_time}
 use Rattle.calls.specs.Births.{remaining, with_candidates, confirmed_places}
@@ -39,7 +36,7 @@ use Rattle.pairing.specs.Rows.{row_of, blank_row}
 use Rattle.spawning.specs.declared.ruling.Spot.{Spot}
 use Rattle.spawning.specs.Ruling.{laid_out, places_of}
 use Rattle.birth_stage.proofs.Staging.{placed}
-use Rattle.flags.specs.Flags.{observation_of}
+use Rattle.flags.specs.Flags.{flagged}
 use Rattle.records.specs.declared.tracks.PkTrack.{PkTrack}
 use Rattle.records.specs.declared.tracker.PkTracker.{PkTracker}
 use Rattle.records.specs.Tracks.{track_of, track_to}
@@ -56,7 +53,7 @@ use Rattle.owner.proofs.Correcting.{Spotted}
 -- ---- the check reads the record
 
 pub check_held : (t : PkTracker) (b : ObservationBatch3D)
-    → batch_reply (settings_of t.settings).frame_id (time_of (observation_of t.has_last_time t.last_time)) (take t.sequence_count t.sequences) b
+    → batch_reply (settings_of t.settings).frame_id ((flagged t.has_last_time t.last_time)) (take t.sequence_count t.sequences) b
     ≡ batch_reply (settings_of t.settings).frame_id (pk_state t).last (pk_state t).sequences b
 unfolding state_of tracker_of sequences_of
 check_held t b = refl
@@ -73,7 +70,7 @@ batch_refuses t x b why r q e =
     subst (Processes t b) (sym q) (record { is = sym (ap verdict_on e); reported = sym (ap report_after e); whole = λ d h. never_given (number_of why) d (sym e ∙ h) })
 
 pub batch_carried : (t u : PkTracker) (b : ObservationBatch3D) (report : BatchReport3D) (d : Done) → batch_reply_on t b ≡ given d → u ≡ pk_over t d.state → report ≡ whole_report d.report
-    → Processes t b (record { tracker = u; outcome = outcome.Done; report = report })
+    → Processes t b (record { tracker = u; outcome = Ok tt; report = report })
 batch_carried t u b report d e eu er =
     record {
       is = sym (ap verdict_on e);
@@ -113,12 +110,12 @@ front_more m k y h = ap (map track_of) (take_set m k (track_to y) h) ∙ map_app
 
 -- the tracks in front of the record, and the candidates that stay
 abbrev pub start_at : PkTracker → ℕ → ℕ → ℤ → List BirthCandidate → State
-start_at t n id now candidates = record { tracks = map track_of (take n t.tracks); next = id; last = some now; sequences = take t.sequence_count t.sequences; candidates = candidates }
+start_at t n id now candidates = record { tracks = map track_of (take n t.tracks); next = id; last = Some now; sequences = take t.sequence_count t.sequences; candidates = candidates }
 
 pub start_is : (t x : PkTracker) (n : ℕ) (now : ℤ) (us : List Track3D) (cs : List BirthCandidate) → x ≡ with_pk_tracks t x.tracks → map track_of (take n x.tracks) ≡ us
-    → record { tracks = map track_of (take n x.tracks); next = x.next_track_id; last = some now; sequences = take x.sequence_count x.sequences; candidates = cs } ≡ with_candidates cs (at_time now us (pk_state t))
+    → record { tracks = map track_of (take n x.tracks); next = x.next_track_id; last = Some now; sequences = take x.sequence_count x.sequences; candidates = cs } ≡ with_candidates cs (at_time now us (pk_state t))
 unfolding state_of tracker_of sequences_of
-start_is t x n now us cs e h = λ i. record { tracks = h i; next = (e i).next_track_id; last = some now; sequences = take (e i).sequence_count (e i).sequences; candidates = cs }
+start_is t x n now us cs e h = λ i. record { tracks = h i; next = (e i).next_track_id; last = Some now; sequences = take (e i).sequence_count (e i).sequences; candidates = cs }
 
 pub places_are : (p : List Track3D) (spots : List Spot) (near : ℕ) → Spotted p spots near → places_of (record { items = spots; count = near }) ≡ confirmed_places p
 unfolding laid_out

@@ -1,11 +1,10 @@
 -- The loop of a batch that moves the tracks of the record, clears their marks and notes what the pairing reads of each. Assumes nothing.
+use Rattle.std.specs.Prelude.{None, Some}
 use mathlib.Core.Path.{◌≡◌, refl, sym, ap, ◌∙◌}
 use mathlib.Core.Bool.{false}
 use mathlib.Core.List.{List, [], ◌∷◌, ◌++◌, map}
-use mathlib.Core.Option.{Option, none, some}
 use Prim.Native.Nat.{ℕ, min, ◌+◌, ◌≤◌, ◌<◌}
 use native.Mathlib.Omega.{arith}
-use native.Mathlib.Numerals.{add-one}
 use lib.IntN.{ℤ}
 use lib.Ieee.{Float}
 use lib.ListN.{length, take, get_or, set, replicate, length-map, length-append}
@@ -24,14 +23,14 @@ use Rattle.calls.specs.Predict.{continued, moved, predicted_tracks}
 use Rattle.pairing.specs.declared.Row.{Row}
 use Rattle.pairing.specs.Rows.{row_of, blank_row}
 use Rattle.moving.specs.Steps.{carried}
-use Rattle.moving.proofs.Passing.{Passed, passed_start, passed_drop, passed_keep, passed_stops}
+use Rattle.moving.proofs.Passing.{Passed, passed_drop, passed_keep, passed_stops}
 use Rattle.moving.proofs.Tracks.{refused_before, drops, keeps, stops}
 use Rattle.records.specs.declared.tracks.PkTrack.{PkTrack}
 use Rattle.records.specs.declared.tracker.PkTracker.{PkTracker}
 use Rattle.records.specs.Tracks.{track_of, track_to}
 use Rattle.records.specs.Configs.{settings_of}
 use Rattle.records.specs.Trackers.{pk_state}
-use Rattle.records.proofs.Back.{track_back, tracks_back}
+use Rattle.records.proofs.Back.{track_back}
 use Rattle.owner.proofs.Through.{kept_as, stored_as, sift_through}
 use Rattle.owner.proofs.Carrying.{keeps_pk, tracks_held}
 
@@ -73,10 +72,10 @@ module _ (life : LifecycleConfig) (q : Float) (now : ℤ) where
   clears_pk a = stored_as track_of track_to (clears (track_of a))
 
   module _ (l m : List PkTrack) (i j : ℕ) (a : PkTrack) (p : Passed (keeps_pk life q now) clears_pk l m i j) where
-    pub clearing_drop : i < length l → carried life q now (track_of (get_or m i a)) ≡ given none → Passed (keeps_pk life q now) clears_pk l m (i + 1) j
+    pub clearing_drop : i < length l → carried life q now (track_of (get_or m i a)) ≡ given None → Passed (keeps_pk life q now) clears_pk l m (i + 1) j
     clearing_drop h e = passed_drop (keeps_pk life q now) clears_pk l m i j a p h (ap (kept_as track_of track_to) (drops life q now (track_of (get_or m i a)) e))
 
-    pub clearing_keep : (z : Track3D) → i < length l → carried life q now (track_of (get_or m i a)) ≡ given (some z) → Passed (keeps_pk life q now) clears_pk l (set m j (track_to (with_mark false z))) (i + 1) (j + 1)
+    pub clearing_keep : (z : Track3D) → i < length l → carried life q now (track_of (get_or m i a)) ≡ given (Some z) → Passed (keeps_pk life q now) clears_pk l (set m j (track_to (with_mark false z))) (i + 1) (j + 1)
     clearing_keep z h e =
         let k = keeps life q now (track_of (get_or m i a)) z e in
         passed_keep (keeps_pk life q now) clears_pk l m i j a (track_to k.aged) (track_to (with_mark false z)) p h (ap (kept_as track_of track_to) k.goes_on)

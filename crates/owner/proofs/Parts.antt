@@ -1,8 +1,8 @@
 -- A batch on the record by its parts: what a refusal of each says of the whole, and what the record and the report are where none refuses. Assumes nothing.
+use Rattle.std.specs.Prelude.{Err, Ok, Option, pos, unwrap_or}
 use mathlib.Core.Path.{◌≡◌, refl, sym, ap, ◌∙◌}
 use mathlib.Core.Bool.{true, false}
 use mathlib.Core.List.{List, map}
-use mathlib.Core.Option.{Option, some}
 use Prim.Native.Nat.{ℕ, ◌≤◌}
 use native.Mathlib.Omega.{arith}
 use lib.ListN.{length, take, replicate, length-map, length-take}
@@ -12,29 +12,27 @@ use Rattle.lists.specs.Lay.{lay}
 use Rattle.lists.specs.Each.{each_at}
 use Rattle.lists.proofs.Each.{each_length}
 use Rattle.lists.proofs.Laying.{lay_lay}
-use Rattle.settings.specs.Optional.{i64_of}
 use Rattle.settings.specs.declared.Cartesian3DTrackerConfig.{Cartesian3DTrackerConfig}
 use Rattle.detections.specs.declared.Detection.{Detection}
 use Rattle.types.specs.declared.batch.ObservationBatch3D.{ObservationBatch3D}
 use Rattle.types.specs.declared.batch.BatchReport3D.{BatchReport3D}
 use Rattle.types.specs.declared.batch.ObservationAssociation.{ObservationAssociation}
 use Rattle.types.specs.declared.refusal.Refusal.{Refusal}
-use Rattle.types.specs.declared.refusal.Outcome.TheVariants as outcome
 use Rattle.types.specs.declared.track.Track3D.{Track3D}
 use Rattle.types.specs.declared.tracker.BirthCandidate.{BirthCandidate}
 use Rattle.types.specs.declared.tracker.SensorSequence.{SensorSequence}
 use Rattle.types.specs.Refusals.{number_of}
 use Rattle.types.specs.Track.{with_mark}
 use Rattle.types.specs.Batches.{batch_of, whole_report, over_report}
-use Rattle.types.specs.States.{State, state_of, sequences_of, last_time_of}
+use Rattle.types.specs.States.{State, state_of, sequences_of}
 use Rattle.tables.specs.Sequences.{noted, noted_in, room_for}
-use Rattle.batches.specs.Check.{batch_reply, detections_reply}
+use Rattle.batches.specs.Check.{batch_reply}
 use Rattle.calls.specs.Predict.{at_time, predicted_tracks}
 use Rattle.calls.specs.Pairing.{pair_config}
 use Rattle.calls.specs.Update.{Matched, updates, matched_with, matched}
 use Rattle.calls.specs.Births.{Births, remaining, with_candidates, confirmed_places, births_of}
 use Rattle.calls.specs.Process.{Done, associations_from, done_with, finished, process_reply}
-use Rattle.calls.proofs.Accepted.{Passed, passed, noted_room}
+use Rattle.calls.proofs.Accepted.{passed, noted_room}
 use Rattle.calls.proofs.Spawning.{births_length}
 use Rattle.association.specs.Told.{mate_of, columns_from}
 use Rattle.matching.specs.declared.Paired.{Paired}
@@ -46,7 +44,7 @@ use Rattle.birth_stage.specs.Walk.{blanks}
 use Rattle.birth_stage.proofs.Walking.{told_length, columns_length}
 use Rattle.birth_stage.proofs.Growing.{Grows, births_grow}
 use Rattle.stages.proofs.Taking.{updates_by_mates}
-use Rattle.flags.specs.Flags.{has_observation, the_observation}
+use Rattle.flags.specs.Flags.{flag}
 use Rattle.records.specs.declared.tracks.PkTrack.{PkTrack}
 use Rattle.records.specs.declared.tracker.PkTracker.{PkTracker}
 use Rattle.records.specs.Tracks.{track_to}
@@ -96,15 +94,15 @@ module _ (t : PkTracker) (b : ObservationBatch3D) where
     -- ---- the pairing, of the tracks in the first n places of an array
 
     module _ (ms : List Track3D) (moves : predicted ≡ given ms) (array : List Track3D) (n : ℕ) (st : length array ≡ 64) (sd : length b.observations ≡ 64) (front : take n array ≡ map (with_mark false) ms) (p : Paired)
-        (a : Matches (pair_config c) (take n array) ds (takers_for (pair_config c) (i64_of c.recent_track_window_ns) b.timestamp (take n array) ds) p) where
+        (a : Matches (pair_config c) (take n array) ds (takers_for (pair_config c) (c.recent_track_window_ns) b.timestamp (take n array) ds) p) where
       by_rest : reply ≡ rest (take n array)
       by_rest = by_moved ∙ ap (λ (r : Reply (List Track3D)). and_then r (λ ms. rest (map (with_mark false) ms))) moves ∙ ap rest (sym front)
 
-      pub pair_refused : (why : Refusal) → p.outcome ≡ outcome.Refused why → reply ≡ refused (number_of why)
+      pub pair_refused : (why : Refusal) → p.outcome ≡ Err why → reply ≡ refused (number_of why)
       pair_refused why h =
           by_rest ∙ ap (λ (r : Reply Matched). and_then r (finished c s b)) (stage_refused c b.sensor_id b.timestamp array n b.observations b.count st sd p a why h)
 
-      module _ (paired : p.outcome ≡ outcome.Done) where
+      module _ (paired : p.outcome ≡ Ok tt) where
         abbrev pub took : ℕ → Option Detection
         took = mate_of p.mates b.observations
 
@@ -214,13 +212,13 @@ module _ (t : PkTracker) (b : ObservationBatch3D) where
                     tracks = laid i;
                     track_count = (ek ∙ sym (length-map ts track_to)) i;
                     next_track_id = ei i;
-                    last_time = the_observation (last_time_of (sym grown.last i));
+                    last_time = unwrap_or ((sym grown.last i)) (pos 0);
                     sequences = (ee ∙ ap (λ (r : List SensorSequence). lay r t.sequences) kept) i;
                     sequence_count = (eq ∙ ap length kept) i;
                     candidates = em i;
                     candidate_count = ej i;
                     settings = t.settings;
-                    has_last_time = has_observation (last_time_of (sym grown.last i));
+                    has_last_time = flag ((sym grown.last i));
                     reserved = t.reserved;
                   })
 

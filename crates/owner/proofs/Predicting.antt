@@ -1,6 +1,6 @@
 -- What the prediction of the record answers: refused before it begins, by a track, or carried out. Assumes nothing.
 use mathlib.Core.Path.{◌≡◌, refl, sym, ap, ◌∙◌}
-use mathlib.Core.Bool.{Bool, true, false, not, cond}
+use mathlib.Core.Bool.{Bool, true, false, cond}
 use mathlib.Core.List.{List, map}
 use Prim.Native.Nat.{ℕ, min, ◌≤◌, ◌<◌}
 use native.Mathlib.Omega.{arith}
@@ -20,10 +20,10 @@ use Rattle.types.specs.declared.track.Track3D.{Track3D}
 use Rattle.types.specs.declared.refusal.Refusal.{Refusal}
 use Rattle.types.specs.declared.refusal.Refusal.TheVariants as refusal
 use Rattle.types.specs.Refusals.{number_of}
-use Rattle.types.specs.States.{State, time_of, state_of, sequences_of, candidates_of}
+use Rattle.types.specs.States.{State, state_of, sequences_of, candidates_of}
 use Rattle.batches.specs.Check.{is_before}
 use Rattle.calls.specs.Predict.{at_time, predicted_tracks, predict_reply}
-use Rattle.flags.specs.Flags.{observation_of}
+use Rattle.flags.specs.Flags.{flagged}
 use Rattle.records.specs.declared.tracks.PkTrack.{PkTrack}
 use Rattle.records.specs.declared.tracker.PkTracker.{PkTracker}
 use Rattle.records.specs.Tracks.{track_to}
@@ -81,7 +81,7 @@ module _ (t : PkTracker) (now : ℤ) (st : length t.tracks ≡ 64) (ss : length 
   reply = predict_reply (settings_of t.settings) (pk_state t) now
 
   -- the last time that the record means
-  pub last_held : (pk_state t).last ≡ time_of (observation_of t.has_last_time t.last_time)
+  pub last_held : (pk_state t).last ≡ (flagged t.has_last_time t.last_time)
   unfolding state_of tracker_of
   last_held = refl
 

@@ -1,7 +1,7 @@
 -- Elements that are kept in another form: what is done to each in its own form is done to the list of what they mean. Assumes nothing.
+use Rattle.std.specs.Prelude.{None, Option, Some}
 use mathlib.Core.Path.{◌≡◌, refl, ap, ◌∙◌}
 use mathlib.Core.List.{List, [], ◌∷◌, map}
-use mathlib.Core.Option.{Option, none, some}
 use Prim.Native.Nat.{ℕ, zero, suc}
 use lib.ListN.{take}
 use Rattle.number.specs.Reply.{Reply, refused, given, and_then}
@@ -15,8 +15,8 @@ map_take {A} {B} f (suc n) (x ∷ l) = ap {B = List B} (λ q. f x ∷ q) (map_ta
 
 module _ {A B : Type 0} (of : A → B) (to : B → A) where
   abbrev pub kept_as : Option B → Option A
-  kept_as none = none
-  kept_as (some y) = some (to y)
+  kept_as None = None
+  kept_as (Some y) = Some (to y)
 
   abbrev pub stored_as : Reply B → Reply A
   stored_as r = and_then r (λ y. given (to y))
@@ -41,8 +41,8 @@ module _ {A B : Type 0} (of : A → B) (to : B → A) where
       where
         by_kept : (o : Option B) → each (λ a. stored_as (f (of a))) (sift (λ a. kept_as (g (of a))) l) ≡ and_then (each f (sift g (map of l))) (λ ys. given (map to ys))
             → each (λ a. stored_as (f (of a))) (kept (kept_as o) (sift (λ a. kept_as (g (of a))) l)) ≡ and_then (each f (kept o (sift g (map of l)))) (λ ys. given (map to ys))
-        by_kept none e = e
-        by_kept (some y) e = rw (back y) (by_moved (f y) (each (λ a. stored_as (f (of a))) (sift (λ a. kept_as (g (of a))) l)) (each f (sift g (map of l))) e)
+        by_kept None e = e
+        by_kept (Some y) e = rw (back y) (by_moved (f y) (each (λ a. stored_as (f (of a))) (sift (λ a. kept_as (g (of a))) l)) (each f (sift g (map of l))) e)
 
     -- each element at its place
     pub each_through : (f : ℕ → B → Reply B) (i : ℕ) (l : List B) → each_at (λ k a. stored_as (f k (of a))) i (map to l) ≡ and_then (each_at f i l) (λ ys. given (map to ys))

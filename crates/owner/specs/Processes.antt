@@ -1,9 +1,8 @@
 -- What a batch on the record that a C program holds answers.
-use Rattle.std.specs.Prelude.{◌≡◌}
+use Rattle.std.specs.Prelude.{◌≡◌, Err}
 use Rattle.number.specs.Reply.{Reply, given}
 use Rattle.types.specs.declared.batch.ObservationBatch3D.{ObservationBatch3D}
 use Rattle.types.specs.declared.refusal.Refusal.{Refusal}
-use Rattle.types.specs.declared.refusal.Outcome.TheVariants.{Refused}
 use Rattle.types.specs.Refusals.{reply_of}
 use Rattle.types.specs.Batches.{blank_report}
 use Rattle.calls.specs.Process.{Done, process_reply}
@@ -14,7 +13,7 @@ use Rattle.records.specs.Trackers.{pk_state, pk_over}
 use Rattle.owner.specs.declared.batch.Ran.{Ran}
 
 abbrev pub refused_with : PkTracker → Refusal → Ran
-refused_with t why = record { tracker = t; outcome = Refused why; report = blank_report }
+refused_with t why = record { tracker = t; outcome = Err why; report = blank_report }
 
 abbrev pub batch_reply_on : PkTracker → ObservationBatch3D → Reply Done
 batch_reply_on t b = process_reply (settings_of t.settings) (pk_state t) b

@@ -1,6 +1,5 @@
 // A batch on the record that a C program holds.
 ghost use Rattle.std.specs.Prelude.{◌≡◌, cond, map, ltb, take};
-ghost use Rattle.settings.specs.Optional.{i64_of};
 ghost use Rattle.calls.specs.Pairing.{pair_config};
 ghost use Rattle.matching.specs.Stage.{rows_taken, RowsMatch};
 ghost use Rattle.owner.specs.Processes.{refused_with, Processes};
@@ -17,14 +16,14 @@ use settings::Cartesian3DTrackerConfig;
 use spawning::ruling::Places;
 use tables::sequences::Sequences;
 use types::batch::{BatchReport3D, ObservationBatch3D};
-use types::refusal::{Outcome, Refusal};
+use types::refusal::Refusal;
 use types::{MAX_OBSERVATIONS, MAX_TRACKS};
 
 // Whether a batch was carried out, the record after it, and the report; where it is refused the record counts for nothing.
 #[derive(Clone, Copy)]
 pub struct Ran {
     pub tracker: PkTracker,
-    pub outcome: Outcome,
+    pub outcome: Result<(), Refusal>,
     pub report: BatchReport3D,
 }
 
@@ -34,7 +33,7 @@ fn refuse(t: PkTracker, why: Refusal) -> Ran
 {
     Ran {
         tracker: t,
-        outcome: Outcome::Refused(why),
+        outcome: Err(why),
         report: stages::blank_report(),
     }
 }
@@ -55,7 +54,7 @@ fn pair(
     time: i64,
     config: Cartesian3DTrackerConfig,
 ) -> Paired
-    ensures { RowsMatch (pair_config config) (take n rows) (take m seen) (rows_taken (pair_config config) (i64_of config.recent_track_window_ns) time (take n rows) (take m seen)) result }
+    ensures { RowsMatch (pair_config config) (take n rows) (take m seen) (rows_taken (pair_config config) (config.recent_track_window_ns) time (take n rows) (take m seen)) result }
 {
     let window = config.recent_track_window_ns;
     let rule = PairConfig {
@@ -75,17 +74,17 @@ pub fn process_batch(mut t: PkTracker, batch: ObservationBatch3D) -> Ran
     let frame = config.frame_id;
     let life = config.lifecycle;
     let density = config.accel_spectral_density;
-    let last = flags::observation_of(t.has_last_time, t.last_time);
+    let last = flags::flagged(t.has_last_time, t.last_time);
     let sequences = t.sequences;
     let time = batch.timestamp;
     let sensor = batch.sensor_id;
     let observations = batch.observations;
     let count = batch.count;
     match batches::validate_batch(frame, last, sequences, t.sequence_count, batch) {
-        Outcome::Refused(why) => {
+        Err(why) => {
             return refuse(t, why);
         }
-        Outcome::Done => {}
+        Ok(()) => {}
     }
     let all = tables::taken(t.track_count, MAX_TRACKS);
     let blank = pairing::blank_row();
@@ -118,10 +117,10 @@ pub fn process_batch(mut t: PkTracker, batch: ObservationBatch3D) -> Ran
     let pairs = paired.pairs;
     let unmatched = paired.unmatched;
     match outcome {
-        Outcome::Refused(why) => {
+        Err(why) => {
             return refuse(t, why);
         }
-        Outcome::Done => {}
+        Ok(()) => {}
     }
     let update = updating::update_of(config, sensor, time);
     let nowhere = spawning::ruling::no_spot();
@@ -140,10 +139,10 @@ pub fn process_batch(mut t: PkTracker, batch: ObservationBatch3D) -> Ran
         let done = step.outcome;
         let y = step.track;
         match done {
-            Outcome::Refused(why) => {
+            Err(why) => {
                 return refuse(t, why);
             }
-            Outcome::Done => {
+            Ok(()) => {
                 t.tracks[k] = records::tracks::track_to(y);
                 k += 1;
                 if spawning::ruling::is_confirmed_track(y) {
@@ -162,10 +161,10 @@ pub fn process_batch(mut t: PkTracker, batch: ObservationBatch3D) -> Ran
     let stayed = aged.outcome;
     let mut kept = aged.candidates;
     match stayed {
-        Outcome::Refused(why) => {
+        Err(why) => {
             return refuse(t, why);
         }
-        Outcome::Done => {}
+        Ok(()) => {}
     }
     let places = Places {
         items: spots,
@@ -240,7 +239,7 @@ pub fn process_batch(mut t: PkTracker, batch: ObservationBatch3D) -> Ran
     };
     Ran {
         tracker: t,
-        outcome: Outcome::Done,
+        outcome: Ok(()),
         report,
     }
 }

@@ -3,14 +3,12 @@
 
 ghost use Rattle.std.specs.Prelude.{◌≡◌, cond, min, eqb};
 ghost use Rattle.types.specs.Refusals.{number_of};
-ghost use Rattle.types.specs.States.{time_of};
 ghost use Rattle.records.specs.Configs.{settings_of};
 ghost use Rattle.records.specs.Trackers.{pk_state};
 ghost use Rattle.batches.specs.Check.{is_before};
 ghost use Rattle.calls.specs.Predict.{predict_reply};
 ghost use Rattle.owner.specs.Owner.{Runs};
 
-use lifecycle::Observation;
 use moving::Fate;
 use records::tracker::PkTracker;
 use types::refusal::Refusal;
@@ -46,8 +44,8 @@ pub fn number_of(why: Refusal) -> u32
 }
 
 // A time before the last one is refused with 3.
-fn time_code(last: Observation, time: i64) -> u32
-    ensures { result ≡ cond (is_before (time_of last) time) 3 0 }
+fn time_code(last: Option<i64>, time: i64) -> u32
+    ensures { result ≡ cond (is_before (last) time) 3 0 }
 {
     if batches::is_before(last, time) { 3 } else { 0 }
 }
@@ -71,7 +69,7 @@ pub fn predict_to(mut t: PkTracker, time: i64) -> Ran
     let config = records::config::settings_of(settings);
     let life = config.lifecycle;
     let density = config.accel_spectral_density;
-    let last = flags::observation_of(t.has_last_time, t.last_time);
+    let last = flags::flagged(t.has_last_time, t.last_time);
     let mut code = time_code(last, time);
     let all = live(code, t.track_count);
     let mut n: usize = 0;

@@ -1,4 +1,5 @@
 -- The rows of tracks: what a loop that makes them has done by index i, and what `calls` says of the tracks. Assumes nothing.
+use Rattle.std.specs.Prelude.{None}
 use mathlib.Core.Path.{◌≡◌, refl, sym, ap, ◌∙◌}
 use mathlib.Core.List.{List, [], ◌∷◌, map}
 use Prim.Native.Nat.{ℕ, zero, suc, ◌+◌, ◌<◌, min}
@@ -10,10 +11,7 @@ use Rattle.lists.specs.Lay.{lay}
 use Rattle.lists.specs.Each.{each}
 use Rattle.lists.proofs.Laying.{copy_lay, take_lay, take_min, length_lay}
 use Rattle.kuhn_munkres.proofs.Labels.{map_at}
-use Rattle.lifecycle.specs.declared.Observation.TheVariants.{Never}
-use Rattle.detections.specs.declared.Class.TheVariants.{Unknown}
 use Rattle.detections.specs.declared.Detection.{Detection}
-use Rattle.detections.specs.declared.pairs.ClassPrior.TheVariants.{NoPrior}
 use Rattle.detections.specs.declared.pairs.PairConfig.{PairConfig}
 use Rattle.types.specs.declared.track.Track3D.{Track3D}
 use Rattle.calls.specs.Pairing.{cost_reply, cost_table, recent}
@@ -22,7 +20,7 @@ use Rattle.pairing.specs.Rows.{row_of, recent_row, price_reply, row_costs}
 
 -- what is read where there is no row
 abbrev pub no_row : Row
-no_row = record { target = record { expected = record { position = []; covariance = [] }; class_label = Unknown; class_prior = NoPrior }; id = 0; last_observation = Never }
+no_row = record { target = record { expected = record { position = []; covariance = [] }; class_label = None; class_prior = None }; id = 0; last_observation = None }
 
 -- ---- the loop
 

@@ -1,22 +1,16 @@
 -- Rows as the code holds them: what the pairing reads of a track; the column of each row as a number, with 64 for none.
-use Rattle.std.specs.Prelude.{ℕ, ◌<◌, ◌≡◌, Bool, true, false, List, map, ℤ, Float, length, get_or, replicate}
-use Rattle.std.proofs.Math.Option.{Option, none, some}
+use Rattle.std.specs.Prelude.{ℕ, ◌<◌, ◌≡◌, Bool, List, map, ℤ, Float, length, get_or, replicate, None, Option, Some}
 use Rattle.number.specs.Reply.{Reply, refused, given, and_then}
-use Rattle.lifecycle.specs.declared.Observation.TheVariants.{Never}
 use Rattle.matrix.specs.Matrix.{nought}
 use Rattle.kuhn_munkres.specs.Assignment.{column_of}
 use Rattle.lists.specs.Each.{each}
-use Rattle.detections.specs.declared.Class.TheVariants.{Unknown}
 use Rattle.detections.specs.declared.Detection.{Detection}
-use Rattle.detections.specs.declared.pairs.ClassPrior.TheVariants.{NoPrior}
 use Rattle.detections.specs.declared.pairs.PairConfig.{PairConfig}
 use Rattle.detections.specs.declared.pairs.Target.{Target}
 use Rattle.detections.specs.Pairs.{verdict_of}
 use Rattle.types.specs.declared.track.Track3D.{Track3D}
 use Rattle.calls.specs.Pairing.{target_for, cost_of, recent_since}
 use Rattle.pairing.specs.declared.Row.{Row}
-use Rattle.pairing.specs.declared.Recency.{Recency}
-use Rattle.pairing.specs.declared.Recency.TheVariants.{Recent, Old, Overflow}
 
 -- ---- what is read of a track
 
@@ -27,9 +21,9 @@ row_of t = record { target = target_for t; id = t.id; last_observation = t.lifec
 abbrev pub blank_row : Row
 blank_row =
     record {
-      target = record { expected = record { position = replicate 3 nought; covariance = replicate 9 nought }; class_label = Unknown; class_prior = NoPrior };
+      target = record { expected = record { position = replicate 3 nought; covariance = replicate 9 nought }; class_label = None; class_prior = None };
       id = 0;
-      last_observation = Never;
+      last_observation = None;
     }
 
 abbrev pub ids_of : List Row → List ℕ
@@ -50,8 +44,8 @@ row_costs c rows ds = each (λ r. each (price_reply c r.target) ds) rows
 -- ---- the column of each row
 
 abbrev pub column_or : Option ℕ → ℕ
-column_or none = 64
-column_or (some j) = j
+column_or None = 64
+column_or (Some j) = j
 
 -- the first column of each of 64 rows, where t has the row that takes each column
 pub record Mates (t : List (Option ℕ)) (mates : List ℕ) : Type 0 where
@@ -60,7 +54,6 @@ pub record Mates (t : List (Option ℕ)) (mates : List ℕ) : Type 0 where
 
 -- ---- the enum in 01's terms
 
-abbrev pub reply_of_recency : Recency → Reply Bool
-reply_of_recency Recent = given true
-reply_of_recency Old = given false
-reply_of_recency Overflow = refused 8
+abbrev pub reply_of_recency : Option Bool → Reply Bool
+reply_of_recency (Some recent) = given recent
+reply_of_recency None = refused 8

@@ -9,13 +9,10 @@ ghost use Rattle.calls.specs.Pairing.{recent_since};
 ghost use Rattle.pairing.specs.Laid.{Laid};
 ghost use Rattle.pairing.specs.Rows.{Mates, reply_of_recency, row_of, blank_row, ids_of, recent_row};
 
-use detections::Class;
 use detections::pairs::{ClassPrior, Target};
 use filter::Expected;
-use lifecycle::Observation;
-use number::time::Duration;
 use types::MAX_TRACKS;
-use types::refusal::{Outcome, Refusal};
+use types::refusal::Refusal;
 use types::track::Track3D;
 
 // What the pairing reads of a track; the position that its filter expects is worked out once for all detections.
@@ -23,7 +20,7 @@ use types::track::Track3D;
 pub struct Row {
     pub target: Target,
     pub id: u64,
-    pub last_observation: Observation,
+    pub last_observation: Option<i64>,
 }
 
 pub fn row_of(x: Track3D) -> Row
@@ -59,13 +56,13 @@ pub fn blank_row() -> Row
     };
     let target = Target {
         expected,
-        class_label: Class::Unknown,
-        class_prior: ClassPrior::NoPrior,
+        class_label: None,
+        class_prior: None,
     };
     Row {
         target,
         id: 0,
-        last_observation: Observation::Never,
+        last_observation: None,
     }
 }
 
@@ -76,11 +73,9 @@ pub fn rows_of(tracks: [Track3D; MAX_TRACKS], n: usize) -> [Row; MAX_TRACKS]
     let blank = blank_row();
     let mut rows = [blank; MAX_TRACKS];
     let count = tables::taken(n, MAX_TRACKS);
-    let mut i: usize = 0;
-    while i < count {
+    for i in 0..count {
         let x = row_of(tracks[i]);
         rows[i] = x;
-        i += 1;
     }
     rows
 }
@@ -92,10 +87,8 @@ pub fn ids_of(rows: [Row; MAX_TRACKS], n: usize) -> [u64; MAX_TRACKS]
     ensures { result ≡ lay (take n (ids_of rows)) (replicate 64 0) }
 {
     let mut ids = [0u64; MAX_TRACKS];
-    let mut i: usize = 0;
-    while i < n {
+    for i in 0..n {
         ids[i] = rows[i].id;
-        i += 1;
     }
     ids
 }
@@ -106,41 +99,23 @@ pub fn mates_of(takers: &[usize; 64], m: usize, mates: &mut [usize; 64])
     requires { (m ≤ 64) × (length takers.now ≡ 64) × (mates.old ≡ replicate 64 64) }
     ensures { Mates (takers_of m takers.now) mates.new }
 {
-    let mut j = m;
-    while 0 < j {
-        j -= 1;
+    for j in (0..m).rev() {
         let i = takers[j];
         if i < 64 {
             mates[i] = j;
-            continue;
         }
     }
 }
 
-// Whether a track was seen within the window, or that its age is one that an i64 does not hold.
-#[derive(Clone, Copy)]
-pub enum Recency {
-    Recent,
-    Old,
-    Overflow,
-}
-
-fn seen_within(last: Observation, now: i64, window: i64) -> Recency
+// Whether a track was seen within the window; nothing where its age is one that an i64 does not hold.
+fn seen_within(last: Option<i64>, now: i64, window: i64) -> Option<bool>
     ensures { reply_of_recency result ≡ recent_since window «now» last }
 {
-    match last {
-        Observation::Never => Recency::Old,
-        Observation::At(seen) => match number::time::checked_duration_since(now, seen) {
-            Duration::Nanoseconds(age) => {
-                if age <= window {
-                    Recency::Recent
-                } else {
-                    Recency::Old
-                }
-            }
-            Duration::Overflow => Recency::Overflow,
-        },
-    }
+    let Some(seen) = last else {
+        return Some(false);
+    };
+    let age = number::time::checked_duration_since(now, seen)?;
+    Some(age <= window)
 }
 
 // A leaf, as above. Which of the first n rows' tracks are recent, into the front of `flags`. The first age that overflows decides.
@@ -150,27 +125,15 @@ pub fn mark_recent(
     time: i64,
     window: i64,
     flags: &mut [bool; 64],
-) -> Outcome
+) -> Result<(), Refusal>
     requires { n ≤ 64 }
     ensures { Laid (recent_row window time) (take n rows) 0 (reply_of result) flags.old flags.new }
 {
-    let mut i: usize = 0;
-    while i < n {
-        let x = rows[i];
-        let last = x.last_observation;
-        match seen_within(last, time, window) {
-            Recency::Overflow => {
-                return Outcome::Refused(Refusal::TimestampOverflow);
-            }
-            Recency::Recent => {
-                flags[i] = true;
-                i += 1;
-            }
-            Recency::Old => {
-                flags[i] = false;
-                i += 1;
-            }
-        }
+    for i in 0..n {
+        let Some(recent) = seen_within(rows[i].last_observation, time, window) else {
+            return Err(Refusal::TimestampOverflow);
+        };
+        flags[i] = recent;
     }
-    Outcome::Done
+    Ok(())
 }

@@ -2,8 +2,6 @@
 use Rattle.std.specs.Prelude.{ℕ, ◌≡◌, Float}
 use Rattle.number.specs.Reply.{Reply, code_of, left_in}
 use Rattle.matrix.specs.Matrix.{Vector}
-use Rattle.math.specs.Linalg.{reply_of_distance}
-use Rattle.math.specs.declared.linalg.Distance.{Distance}
 use Rattle.filter.specs.declared.KalmanFilter.{KalmanFilter}
 use Rattle.filter.specs.declared.Expected.{Expected}
 use Rattle.filter.specs.declared.Step.{Step}

@@ -30,21 +30,21 @@ fn lay(step: filter::Step, state: &mut [f64; 6], covariance: &mut [f64; 36]) -> 
     *state = x;
     *covariance = p;
     match outcome {
-        filter::Outcome::Done => 0,
-        filter::Outcome::Refused(why) => number_of(why),
+        Ok(()) => 0,
+        Err(why) => number_of(why),
     }
 }
 
 // A distance behind the pointer, and the answer's code.
-fn lay_distance(distance: math::linalg::Distance, out: &mut f64) -> u32
+fn lay_distance(distance: Result<f64, math::linalg::Refusal>, out: &mut f64) -> u32
     ensures { DistanceCall (reply_of_distance distance) result out.old out.new }
 {
     match distance {
-        math::linalg::Distance::Squared(d) => {
+        Ok(d) => {
             *out = d;
             0
         }
-        math::linalg::Distance::Refused(why) => number_of(why),
+        Err(why) => number_of(why),
     }
 }
 

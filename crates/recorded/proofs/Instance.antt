@@ -1,10 +1,11 @@
 -- Demand 3 speaks of something: its premises hold of whole trackers that calls made, and each of its conditions is needed. Assumes nothing.
+use Rattle.types.specs.declared.refusal.Refusal.{Refusal}
+use Rattle.std.specs.Prelude.{Ok, Result, None, Option, Some}
 use mathlib.Core.Path.{◌≡◌, refl, sym, ap, ◌∙◌, subst}
 use mathlib.Core.Bool.{Bool, true, false, ◌&&◌}
 use mathlib.Core.List.Memᴰ
 use mathlib.Core.List.{List, [], ◌∷◌, map, Memᴰ}
 use mathlib.Core.Logic.{◌⊎◌, inl, inr}
-use mathlib.Core.Option.{Option, none, some}
 use Prim.Native.Nat.{ℕ}
 use native.Mathlib.Omega.{arith}
 use lib.IntN.{ℤ, pos}
@@ -14,7 +15,7 @@ use Rattle.settings.specs.Settings.{default_settings}
 use Rattle.settings.proofs.Defaults.{default_accepted}
 use Rattle.lists.specs.First.{first_of}
 use Rattle.lists.specs.Masks.{left_by, Struck, Every}
-use Rattle.number.proofs.Replies.{given_same, never_given}
+use Rattle.number.proofs.Replies.{never_given}
 use Rattle.lifecycle.specs.declared.TrackLifecycleState.TheVariants.{Tentative}
 use Rattle.detections.specs.declared.Detection.{Detection}
 use Rattle.detections.specs.declared.pairs.PairConfig.{PairConfig}
@@ -22,17 +23,13 @@ use Rattle.detections.specs.declared.pairs.Target.{Target}
 use Rattle.detections.specs.Pairs.{Ruling, forbidden, allowed}
 use Rattle.detections.specs.Far.{MayPair, Far}
 use Rattle.detections.proofs.Verdicts.{forbidden_pair, refused_pair}
-use Rattle.types.specs.declared.refusal.Outcome.{Outcome}
-use Rattle.types.specs.declared.refusal.Outcome.TheVariants as outcome
 use Rattle.types.specs.declared.track.Track3D.{Track3D}
 use Rattle.types.specs.declared.batch.ObservationBatch3D.{ObservationBatch3D}
 use Rattle.types.specs.declared.batch.ObservationAssociation.{ObservationAssociation}
-use Rattle.types.specs.declared.batch.BatchReport3D.{BatchReport3D}
 use Rattle.types.specs.declared.tracker.Cartesian3DTracker.{Cartesian3DTracker}
 use Rattle.types.specs.Refusals.{reply_of}
 use Rattle.types.specs.Batches.{batch_of}
 use Rattle.types.specs.States.{State, state_of}
-use Rattle.calls.specs.Predict.{predicted_tracks}
 use Rattle.calls.specs.Pairing.{pair_config, target_for, verdict}
 use Rattle.calls.specs.Process.{Done, process_reply}
 use Rattle.calls.specs.Run.{Call, predict_to, process_batch, set_class_prior, state_given, state_reply, run}
@@ -62,13 +59,13 @@ facts =
 
 -- ---- calls that are answered so keep their contracts
 
-step_after : (t : Cartesian3DTracker) (call : Call) (o : Outcome) → reply_of o ≡ verdict_on (state_reply t.config (state_of t) call) → Step t call (after_call t call)
+step_after : (t : Cartesian3DTracker) (call : Call) (o : Result (Unit {0}) Refusal) → reply_of o ≡ verdict_on (state_reply t.config (state_of t) call) → Step t call (after_call t call)
 unfolding Step state_reply
 step_after t (predict_to now) o e = (o, record { is = e; whole = refl })
 step_after t (process_batch b) o e = (o, report_after (process_reply t.config (state_of t) b), record { tracker = record { is = e; whole = refl }; reported = refl })
 step_after t (set_class_prior n label confidence) o e = (o, record { is = e; whole = refl })
 
-steps_after : (t : Cartesian3DTracker) (calls : List Call) (os : List Outcome) → map reply_of os ≡ verdicts_on t calls → Steps t calls (after_calls t calls)
+steps_after : (t : Cartesian3DTracker) (calls : List Call) (os : List (Result (Unit {0}) Refusal)) → map reply_of os ≡ verdicts_on t calls → Steps t calls (after_calls t calls)
 unfolding Steps after_calls verdicts_on
 steps_after t [] os e = refl
 steps_after t (call ∷ calls) [] e = absurd (let z : ◌≡◌ {A = ℕ} 0 1 = cc in omega arith)
@@ -79,12 +76,12 @@ told_given (refused n) x l e = absurd (let z : ◌≡◌ {A = ℕ} 0 1 = cc in o
 told_given (given d) x l e = refl
 
 -- a fresh tracker has no track
-track_given : (r : Reply Done) (n : ℕ) (mark : Bool) → mark_of (track_of n (state_in r).tracks) ≡ some mark → verdict_on r ≡ given tt
+track_given : (r : Reply Done) (n : ℕ) (mark : Bool) → mark_of (track_of n (state_in r).tracks) ≡ Some mark → verdict_on r ≡ given tt
 unfolding first_of
 track_given (refused k) n mark e = absurd (let z : ◌≡◌ {A = ℕ} 0 1 = cc in omega arith)
 track_given (given d) n mark e = refl
 
-carried : (u : Cartesian3DTracker) (b : ObservationBatch3D) → let r = process_reply u.config (state_of u) b in verdict_on r ≡ given tt → BatchAnswers u b (tracker_after u (state_given r)) outcome.Done (report_after r)
+carried : (u : Cartesian3DTracker) (b : ObservationBatch3D) → let r = process_reply u.config (state_of u) b in verdict_on r ≡ given tt → BatchAnswers u b (tracker_after u (state_given r)) (Ok tt) (report_after r)
 carried u b e = record { tracker = record { is = go (process_reply u.config (state_of u) b) e; whole = refl }; reported = refl }
   where
     go : (r : Reply Done) → verdict_on r ≡ given tt → given tt ≡ verdict_on (state_given r)
@@ -163,7 +160,7 @@ done_on b = done_of (tracker_after before (state_given (reply_to b))) (report_af
 guaranteed : (a b : ObservationBatch3D) (d : DifferByFar start.config (state_of before) a b) → verdict_on (reply_to a) ≡ given tt → verdict_on (reply_to b) ≡ given tt
     → Guaranteed start.config (state_of start) calls (state_of before) a b d (done_on a) (done_on b)
 guaranteed a b d x y =
-    demand3_whole default_settings outcome.Done start (record { is = sym default_accepted; whole = refl })
+    demand3_whole default_settings (Ok _) start (record { is = sym default_accepted; whole = refl })
     calls before _ _ a b _ _ reached (carried before a x) (carried before b y) d
 
 pub guaranteed_first_and_last : Guaranteed start.config (state_of start) calls (state_of before) far_first far_last first_and_last (done_on far_first) (done_on far_last)
@@ -182,14 +179,14 @@ last_in_each = (tt, tt)
 -- far: with a near detection struck in place of a far one, the track that it updates ends otherwise
 pub near_matters : ¬ (track_of 1 (state_in (reply_to far_none)).tracks ≡ track_of 1 (state_in (reply_to near_struck)).tracks)
 near_matters e =
-    let same : some true ≡ some false = sym facts.marked ∙ ap mark_of e ∙ facts.unmarked in
+    let same : Some true ≡ Some false = sym facts.marked ∙ ap mark_of e ∙ facts.unmarked in
     let z : ◌≡◌ {A = ℕ} 0 1 = cc in omega arith
 
 -- last: a far one before a common one takes the number of the track that this one begins
 pub order_matters : ¬ (map birth_of (left_by first_and_last.in_a (told (reply_to far_first))) ≡ map birth_of (left_by first_and_last.in_b (told (reply_to far_last))))
 unfolding first_and_last birth_of left_by
 order_matters e =
-    let same : ◌≡◌ {A = List (Option ℕ)} (none ∷ some 3 ∷ []) (none ∷ some 2 ∷ []) = rw (facts.told_first, facts.told_last) at e in
+    let same : ◌≡◌ {A = List (Option ℕ)} (None ∷ Some 3 ∷ []) (None ∷ Some 2 ∷ []) = rw (facts.told_first, facts.told_last) at e in
     let z : ◌≡◌ {A = ℕ} 3 2 = cc in omega arith
 
 -- ---- numbers that ascend are needed: where an expired track has the next number, a far detection's new track is taken for it
@@ -219,7 +216,7 @@ numbers_matter claim =
     let p = given_what (process_reply default_settings number_twice one) (track_given (process_reply default_settings number_twice one) 5 true facts.kept_one) in
     let q = given_what (process_reply default_settings number_twice nothing) facts.accepted_nothing in
     let e = (claim [] one nothing p.0 q.0 one_and_nothing p.1 q.1).standing (standing Tentative (pos 200) 0 5) (Memᴰ.head refl) in
-    let kept : mark_of (track_of 5 p.0.state.tracks) ≡ some true = subst (λ (r : Reply Done). mark_of (track_of 5 (state_in r).tracks) ≡ some true) p.1 facts.kept_one in
-    let dropped : mark_of (track_of 5 q.0.state.tracks) ≡ none = subst (λ (r : Reply Done). mark_of (track_of 5 (state_in r).tracks) ≡ none) q.1 facts.dropped_nothing in
-    let same : some true ≡ none = sym kept ∙ ap mark_of e ∙ dropped in
+    let kept : mark_of (track_of 5 p.0.state.tracks) ≡ Some true = subst (λ (r : Reply Done). mark_of (track_of 5 (state_in r).tracks) ≡ Some true) p.1 facts.kept_one in
+    let dropped : mark_of (track_of 5 q.0.state.tracks) ≡ None = subst (λ (r : Reply Done). mark_of (track_of 5 (state_in r).tracks) ≡ None) q.1 facts.dropped_nothing in
+    let same : Some true ≡ None = sym kept ∙ ap mark_of e ∙ dropped in
     let z : ◌≡◌ {A = ℕ} 0 1 = cc in omega arith

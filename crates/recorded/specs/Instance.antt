@@ -1,6 +1,6 @@
 -- Calls of a whole tracker and two batches after them that differ by far detections: an instance of demand 3, and batches that show what its conditions are for.
-use Rattle.std.specs.Prelude.{ℕ, ◌≡◌, Bool, true, false, ◌&&◌, List, [], ◌∷◌, map, ℤ, pos}
-use Rattle.std.proofs.Math.Option.{Option, none, some}
+use Rattle.types.specs.declared.refusal.Refusal.{Refusal}
+use Rattle.std.specs.Prelude.{◌≡◌, Bool, true, false, ◌&&◌, List, [], ◌∷◌, map, ℤ, pos, Err, None, Ok, Option, Result, Some}
 use Rattle.std.specs.Float.{binary64}
 use Rattle.std.specs.Float.Ieee.{of_bits}
 use Rattle.number.specs.Reply.{Reply, refused, given}
@@ -8,11 +8,8 @@ use Rattle.lifecycle.specs.declared.TrackLifecycleState.TheVariants.{Tentative}
 use Rattle.settings.specs.declared.Cartesian3DTrackerConfig.{Cartesian3DTrackerConfig}
 use Rattle.settings.specs.Settings.{default_settings}
 use Rattle.detections.specs.declared.Detection.{Detection}
-use Rattle.detections.specs.declared.Class.TheVariants.{Unknown}
 use Rattle.detections.specs.declared.pairs.PairConfig.{PairConfig}
 use Rattle.detections.specs.Pairs.{Ruling, forbidden, allowed}
-use Rattle.types.specs.declared.refusal.Outcome.{Outcome}
-use Rattle.types.specs.declared.refusal.Outcome.TheVariants as outcome
 use Rattle.types.specs.declared.refusal.Refusal.TheVariants.{TimestampWentBackwards, InvalidPrior}
 use Rattle.types.specs.declared.track.Track3D.{Track3D}
 use Rattle.types.specs.declared.batch.ObservationBatch3D.{ObservationBatch3D}
@@ -67,15 +64,15 @@ is_far c s now d = far_among (pair_config c) (predicted_tracks c now s.tracks) d
 -- A birth, a move, a move back that is refused, a prior, and one for a track that isn't there.
 abbrev pub calls : List Call
 calls =
-    process_batch (batch 1 (pos 1000000000) (seen 0 Unknown ∷ []) 1)
+    process_batch (batch 1 (pos 1000000000) (seen 0 None ∷ []) 1)
     ∷ predict_to (pos 1100000000)
     ∷ predict_to (pos 5)
     ∷ set_class_prior 1 3 (of_bits binary64 0x3fe0_0000_0000_0000)
     ∷ set_class_prior 9 3 (of_bits binary64 0x3fe0_0000_0000_0000)
     ∷ []
 
-abbrev pub outcomes : List Outcome
-outcomes = outcome.Done ∷ outcome.Done ∷ outcome.Refused TimestampWentBackwards ∷ outcome.Done ∷ outcome.Refused InvalidPrior ∷ []
+abbrev pub outcomes : List (Result (Unit {0}) Refusal)
+outcomes = Ok tt ∷ Ok tt ∷ Err TimestampWentBackwards ∷ Ok tt ∷ Err InvalidPrior ∷ []
 
 abbrev pub start : Cartesian3DTracker
 start = fresh_of default_settings
@@ -91,15 +88,15 @@ abbrev pub now : ℤ
 now = pos 1200000000
 
 abbrev pub near : Detection
-near = seen 0 Unknown
+near = seen 0 None
 
 -- far, and common
 abbrev pub apart : Detection
-apart = seen 90 Unknown
+apart = seen 90 None
 
 -- far, and struck
 abbrev pub away : Detection
-away = seen 50 Unknown
+away = seen 50 None
 
 -- it stands first
 abbrev pub far_first : ObservationBatch3D
@@ -118,14 +115,14 @@ abbrev pub near_struck : ObservationBatch3D
 near_struck = batch 2 now (apart ∷ []) 1
 
 abbrev pub mark_of : Option Track3D → Option Bool
-mark_of none = none
-mark_of (some t) = some t.updated_this_batch
+mark_of None = None
+mark_of (Some t) = Some t.updated_this_batch
 
 -- ---- track numbers that don't ascend below the next one
 
 -- an expired track of the number 5, which is the next one
 abbrev pub number_twice : State
-number_twice = record { tracks = standing Tentative (pos 200) 0 5 ∷ []; next = 5; last = none; sequences = []; candidates = [] }
+number_twice = record { tracks = standing Tentative (pos 200) 0 5 ∷ []; next = 5; last = None; sequences = []; candidates = [] }
 
 abbrev pub one : ObservationBatch3D
 one = batch 1 (pos 9000000000) (near ∷ []) 1
@@ -142,10 +139,10 @@ pub record Facts : Type 0 where
   pub told_first : told (reply_to far_first) ≡ began 0 2 ∷ met 1 1 nought ∷ began 2 3 ∷ []
   pub told_last : told (reply_to far_last) ≡ met 0 1 nought ∷ began 1 2 ∷ began 2 3 ∷ []
   -- with the near one the track is updated, and without it not
-  pub marked : mark_of (track_of 1 (state_in (reply_to far_none)).tracks) ≡ some true
-  pub unmarked : mark_of (track_of 1 (state_in (reply_to near_struck)).tracks) ≡ some false
+  pub marked : mark_of (track_of 1 (state_in (reply_to far_none)).tracks) ≡ Some true
+  pub unmarked : mark_of (track_of 1 (state_in (reply_to near_struck)).tracks) ≡ Some false
   -- the far detection begins a second track 5, and without it no track 5 is kept
   pub far_one : is_far default_settings number_twice (pos 9000000000) near ≡ true
-  pub kept_one : mark_of (track_of 5 (state_in (process_reply default_settings number_twice one)).tracks) ≡ some true
+  pub kept_one : mark_of (track_of 5 (state_in (process_reply default_settings number_twice one)).tracks) ≡ Some true
   pub accepted_nothing : verdict_on (process_reply default_settings number_twice nothing) ≡ given tt
-  pub dropped_nothing : mark_of (track_of 5 (state_in (process_reply default_settings number_twice nothing)).tracks) ≡ none
+  pub dropped_nothing : mark_of (track_of 5 (state_in (process_reply default_settings number_twice nothing)).tracks) ≡ None

@@ -1,4 +1,5 @@
 -- A state laid over what a C program holds is that state laid over the tracker that it means. Assumes nothing.
+use Rattle.std.specs.Prelude.{pos, unwrap_or}
 use mathlib.Core.Path.{◌≡◌, refl, sym, ap, ◌∙◌}
 use mathlib.Core.List.{map}
 use lib.ListN.{length, length-map}
@@ -6,11 +7,11 @@ use Rattle.lists.specs.Lay.{lay}
 use Rattle.lists.proofs.Laying.{take_lay}
 use Rattle.lists.proofs.Filling.{map_lay}
 use Rattle.types.specs.declared.tracker.Cartesian3DTracker.{Cartesian3DTracker}
-use Rattle.types.specs.States.{State, state_of, tracks_of, last_time_of, over_state}
+use Rattle.types.specs.States.{State, state_of, tracks_of, over_state}
 use Rattle.types.specs.Fresh.{fresh_of}
 use Rattle.types.proofs.Overs.{state_over}
-use Rattle.flags.specs.Flags.{has_observation, the_observation}
-use Rattle.flags.proofs.Back.{observation_back}
+use Rattle.flags.specs.Flags.{flag}
+use Rattle.flags.proofs.Back.{flag_back}
 use Rattle.records.specs.declared.config.PkSettings.{PkSettings}
 use Rattle.records.specs.declared.tracker.PkTracker.{PkTracker}
 use Rattle.records.specs.Tracks.{track_of, track_to}
@@ -25,7 +26,7 @@ module _ (t : PkTracker) (s : State) where
     tracks = (map_lay track_of (map track_to s.tracks) t.tracks ∙ ap (λ l. lay l (map track_of t.tracks)) (tracks_back s.tracks)) i;
     track_count = length-map s.tracks track_to i;
     next_track_id = s.next;
-    last_time = observation_back (last_time_of s.last) i;
+    last_time = flag_back s.last (pos 0) i;
     sequences = lay s.sequences t.sequences;
     sequence_count = length s.sequences;
     candidates = lay s.candidates t.candidates;
@@ -42,13 +43,13 @@ module _ (t : PkTracker) (s : State) where
     tracks = lay (map track_to (take_lay s.tracks (map track_of t.tracks) i)) t.tracks;
     track_count = sym (length-map s.tracks track_to) i;
     next_track_id = s.next;
-    last_time = the_observation (last_time_of s.last);
+    last_time = unwrap_or s.last (pos 0);
     sequences = lay s.sequences t.sequences;
     sequence_count = length s.sequences;
     candidates = lay s.candidates t.candidates;
     candidate_count = length s.candidates;
     settings = t.settings;
-    has_last_time = has_observation (last_time_of s.last);
+    has_last_time = flag s.last;
     reserved = t.reserved;
   }
 

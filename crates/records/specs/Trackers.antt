@@ -1,15 +1,14 @@
 -- The whole tracker as a C program holds it: read as a tracker, and a state laid over it.
-use Rattle.std.specs.Prelude.{ℕ, map, pos, replicate}
+use Rattle.std.specs.Prelude.{ℕ, map, pos, replicate, Option, ℤ, unwrap_or}
 use Rattle.number.specs.Reply.{Reply, refused, given}
 use Rattle.lists.specs.Lay.{lay}
 use Rattle.lists.specs.Table.{Table, table, over_table}
-use Rattle.lifecycle.specs.declared.Observation.{Observation}
 use Rattle.types.specs.declared.tracker.BirthCandidate.{BirthCandidate}
 use Rattle.types.specs.declared.tracker.SensorSequence.{SensorSequence}
 use Rattle.types.specs.declared.tracker.Cartesian3DTracker.{Cartesian3DTracker}
-use Rattle.types.specs.States.{State, state_of, tracks_of, last_time_of}
+use Rattle.types.specs.States.{State, state_of, tracks_of}
 use Rattle.types.specs.Fresh.{blank_track, blank_sequence, blank_candidate}
-use Rattle.flags.specs.Flags.{observation_of, has_observation, the_observation}
+use Rattle.flags.specs.Flags.{flagged, flag}
 use Rattle.records.specs.declared.config.PkSettings.{PkSettings}
 use Rattle.records.specs.declared.tracks.PkTrack.{PkTrack}
 use Rattle.records.specs.declared.tracker.PkTracker.{PkTracker}
@@ -23,7 +22,7 @@ tracker_of t =
       tracks = map track_of t.tracks;
       track_count = t.track_count;
       next_track_id = t.next_track_id;
-      last_time = observation_of t.has_last_time t.last_time;
+      last_time = flagged t.has_last_time t.last_time;
       sequences = t.sequences;
       sequence_count = t.sequence_count;
       candidates = t.candidates;
@@ -36,19 +35,19 @@ abbrev pub pk_state : PkTracker → State
 pk_state t = state_of (tracker_of t)
 
 -- other parts of all that calls change; the settings are as t has them
-abbrev pub with_pk_parts : ℕ → Observation → Table PkTrack → Table SensorSequence → Table BirthCandidate → PkTracker → PkTracker
+abbrev pub with_pk_parts : ℕ → Option ℤ → Table PkTrack → Table SensorSequence → Table BirthCandidate → PkTracker → PkTracker
 with_pk_parts next last tracks sequences candidates t =
     record {
       tracks = tracks.array;
       track_count = tracks.count;
       next_track_id = next;
-      last_time = the_observation last;
+      last_time = unwrap_or last (pos 0);
       sequences = sequences.array;
       sequence_count = sequences.count;
       candidates = candidates.array;
       candidate_count = candidates.count;
       settings = t.settings;
-      has_last_time = has_observation last;
+      has_last_time = flag last;
       reserved = t.reserved;
     }
 
@@ -56,7 +55,7 @@ with_pk_parts next last tracks sequences candidates t =
 -- the settings are as t has them, bit for bit.
 unfoldable pub pk_over : PkTracker → State → PkTracker
 pk_over t s =
-    with_pk_parts s.next (last_time_of s.last) (over_table (map track_to s.tracks) t.tracks) (over_table s.sequences t.sequences) (over_table s.candidates t.candidates) t
+    with_pk_parts s.next s.last (over_table (map track_to s.tracks) t.tracks) (over_table s.sequences t.sequences) (over_table s.candidates t.candidates) t
 
 -- What a C program holds after a call. 01, What each call declines: "A refusal answers its number and changes nothing lent or held."
 unfoldable pub pk_after : PkTracker → Reply State → PkTracker

@@ -37,7 +37,7 @@ pub fn settings_of(s: PkSettings) -> Cartesian3DTrackerConfig
     let frame_id = s.frame;
     Cartesian3DTrackerConfig {
         lifecycle,
-        new_track_score_threshold: flags::f64_of(
+        new_track_score_threshold: flags::flagged(
             s.has_new_track_score_threshold,
             s.new_track_score_threshold,
         ),
@@ -47,12 +47,12 @@ pub fn settings_of(s: PkSettings) -> Cartesian3DTrackerConfig
         initial_velocity_variance: s.initial_velocity_variance,
         gate_squared_mahalanobis: s.gate_squared_mahalanobis,
         class_prior_penalty: s.class_prior_penalty,
-        recent_track_window_ns: flags::i64_of(s.has_recent_track_window, s.recent_track_window_ns),
-        min_birth_distance_m: flags::f64_of(s.has_min_birth_distance, s.min_birth_distance_m),
-        birth_persistence: flags::u32_of(s.has_birth_persistence, s.birth_persistence),
+        recent_track_window_ns: flags::flagged(s.has_recent_track_window, s.recent_track_window_ns),
+        min_birth_distance_m: flags::flagged(s.has_min_birth_distance, s.min_birth_distance_m),
+        birth_persistence: flags::flagged(s.has_birth_persistence, s.birth_persistence),
         birth_candidate_radius_m: s.birth_candidate_radius_m,
         birth_candidate_timeout_ns: s.birth_candidate_timeout_ns,
-        velocity_measurement_std: flags::f64_of(
+        velocity_measurement_std: flags::flagged(
             s.has_velocity_measurement_std,
             s.velocity_measurement_std,
         ),
@@ -79,15 +79,15 @@ pub fn settings_to(s: Cartesian3DTrackerConfig) -> PkSettings
         class_prior_penalty: s.class_prior_penalty,
         birth_candidate_radius_m: s.birth_candidate_radius_m,
         birth_candidate_timeout_ns: s.birth_candidate_timeout_ns,
-        new_track_score_threshold: flags::the_f64(threshold),
-        recent_track_window_ns: flags::the_i64(window),
-        min_birth_distance_m: flags::the_f64(distance),
-        velocity_measurement_std: flags::the_f64(deviation),
-        birth_persistence: flags::the_u32(persistence),
-        has_new_track_score_threshold: flags::has_f64(threshold),
-        has_recent_track_window: flags::has_i64(window),
-        has_min_birth_distance: flags::has_f64(distance),
-        has_velocity_measurement_std: flags::has_f64(deviation),
-        has_birth_persistence: flags::has_u32(persistence),
+        new_track_score_threshold: threshold.unwrap_or(0.0),
+        recent_track_window_ns: window.unwrap_or(0),
+        min_birth_distance_m: distance.unwrap_or(0.0),
+        velocity_measurement_std: deviation.unwrap_or(0.0),
+        birth_persistence: persistence.unwrap_or(0),
+        has_new_track_score_threshold: flags::flag(threshold),
+        has_recent_track_window: flags::flag(window),
+        has_min_birth_distance: flags::flag(distance),
+        has_velocity_measurement_std: flags::flag(deviation),
+        has_birth_persistence: flags::flag(persistence),
     }
 }

@@ -33,11 +33,9 @@ fn tracks_of(t: PkTracker) -> [Track3D; 64]
 {
     let first = t.tracks[0];
     let mut out = [super::tracks::track_of(first); 64];
-    let mut i: usize = 0;
-    while i < 64 {
+    for i in 0..64 {
         let x = t.tracks[i];
         out[i] = super::tracks::track_of(x);
-        i += 1;
     }
     out
 }
@@ -55,7 +53,7 @@ pub fn tracker_of(t: PkTracker) -> Cartesian3DTracker
         tracks,
         track_count: t.track_count,
         next_track_id: t.next_track_id,
-        last_time: flags::observation_of(t.has_last_time, t.last_time),
+        last_time: flags::flagged(t.has_last_time, t.last_time),
         sequences,
         sequence_count: t.sequence_count,
         candidates,
@@ -70,11 +68,9 @@ fn tracks_over(t: PkTracker, u: Cartesian3DTracker) -> [PkTrack; 64]
 {
     let n = tables::taken(u.track_count, MAX_TRACKS);
     let mut out = t.tracks;
-    let mut i: usize = 0;
-    while i < n {
+    for i in 0..n {
         let x = u.tracks[i];
         out[i] = super::tracks::track_to(x);
-        i += 1;
     }
     out
 }
@@ -92,13 +88,13 @@ pub fn lay_over(t: PkTracker, u: Cartesian3DTracker) -> PkTracker
         tracks,
         track_count: u.track_count,
         next_track_id: u.next_track_id,
-        last_time: flags::the_observation(last),
+        last_time: last.unwrap_or(0),
         sequences,
         sequence_count: u.sequence_count,
         candidates,
         candidate_count: u.candidate_count,
         settings,
-        has_last_time: flags::has_observation(last),
+        has_last_time: flags::flag(last),
         reserved: t.reserved,
     }
 }

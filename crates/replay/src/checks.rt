@@ -1,13 +1,12 @@
 // Settings, by calls.
-ghost use Rattle.std.specs.Prelude.{◌≤◌, ◌<◌};
-
-use super::floats::{bits_of, number_of};
-use super::lives::{bits, signed};
+use super::lives::count_of;
 use lifecycle::LifecycleConfig;
+use settings::Cartesian3DTrackerConfig;
 use settings::frame::FrameName;
-use settings::optional::{OptionalF64, OptionalI64, OptionalU32};
-use settings::{Cartesian3DTrackerConfig, Validation};
 use std::io;
+use wire::floats::{bits_of, number_of};
+use wire::signs::{bits, signed};
+use wire::{Line, names};
 
 // The fields in their order, one number each, but that a frame is its length and four numbers of eight bytes.
 #[derive(Clone, Copy)]
@@ -19,53 +18,11 @@ pub fn new() -> Loaded {
     Loaded { numbers: [0; 21] }
 }
 
-// Eight bytes from `at` on, the last the lowest of the number.
-fn spread(mut bytes: [u8; 32], at: usize, word: u64) -> [u8; 32]
-    requires { at ≤ 24 }
-{
-    let mut rest = word;
-    let mut i: usize = 8;
-    while 0 < i {
-        i -= 1;
-        bytes[at + i] = (rest % 256) as u8;
-        rest /= 256;
-    }
-    bytes
-}
-
-fn wide(b: u8) -> u64
-    ensures { result < 256 }
-{
-    b as u64
-}
-
-// The number of eight bytes from `at` on.
-fn gathered(bytes: [u8; 32], at: usize) -> u64
-    requires { at ≤ 24 }
-{
-    let mut value: u64 = 0;
-    let mut i: usize = 0;
-    while i < 8 {
-        value = value % 72057594037927936 * 256 + wide(bytes[at + i]);
-        i += 1;
-    }
-    value
-}
-
 fn frame_of(numbers: [u64; 21]) -> FrameName {
-    let bytes = [0u8; 32];
-    let bytes = spread(bytes, 0, numbers[7]);
-    let bytes = spread(bytes, 8, numbers[8]);
-    let bytes = spread(bytes, 16, numbers[9]);
-    let bytes = spread(bytes, 24, numbers[10]);
     FrameName {
-        bytes,
+        bytes: names::bytes_of([numbers[7], numbers[8], numbers[9], numbers[10]]),
         length: numbers[6] as usize,
     }
-}
-
-fn count_of(n: u64) -> u32 {
-    (n % 4294967296) as u32
 }
 
 fn lifecycle_of(numbers: [u64; 21]) -> LifecycleConfig {
@@ -77,28 +34,16 @@ fn lifecycle_of(numbers: [u64; 21]) -> LifecycleConfig {
     }
 }
 
-fn f64_of(set: bool, b: u64) -> OptionalF64 {
-    if set {
-        OptionalF64::Some(number_of(b))
-    } else {
-        OptionalF64::None
-    }
+fn f64_of(set: bool, b: u64) -> Option<f64> {
+    if set { Some(number_of(b)) } else { None }
 }
 
-fn i64_of(set: bool, b: u64) -> OptionalI64 {
-    if set {
-        OptionalI64::Some(signed(b))
-    } else {
-        OptionalI64::None
-    }
+fn i64_of(set: bool, b: u64) -> Option<i64> {
+    if set { Some(signed(b)) } else { None }
 }
 
-fn u32_of(set: bool, n: u64) -> OptionalU32 {
-    if set {
-        OptionalU32::Some(count_of(n))
-    } else {
-        OptionalU32::None
-    }
+fn u32_of(set: bool, n: u64) -> Option<u32> {
+    if set { Some(count_of(n)) } else { None }
 }
 
 // The settings, given which optional fields are set: a binary digit each, the first the lowest.
@@ -122,85 +67,78 @@ fn settings_of(numbers: [u64; 21], set: u64) -> Cartesian3DTrackerConfig {
 }
 
 // The number of the first bad field, 0 where there is none.
-fn field_of(v: Validation) -> u64 {
+fn field_of(v: Result<(), u32>) -> u64 {
     match v {
-        Validation::Accepted => 0,
-        Validation::BadField(n) => n as u64,
+        Ok(()) => 0,
+        Err(n) => n as u64,
     }
 }
 
 // Three numbers into the places from `place` on.
-fn load(l: Loaded, place: u64, a: u64, b: u64, c: u64) -> Loaded {
-    let mut numbers = l.numbers;
+fn load(mut l: Loaded, line: Line) -> Loaded {
+    let [place, a, b, c] = line.numbers;
     let i = (place % 19) as usize;
-    numbers[i] = a;
-    numbers[i + 1] = b;
-    numbers[i + 2] = c;
-    Loaded { numbers }
+    l.numbers[i] = a;
+    l.numbers[i + 1] = b;
+    l.numbers[i + 2] = c;
+    l
 }
 
 // One call: see main.rt.
-pub fn run(
-    rt: &impl Print,
-    l: Loaded,
-    letter: u8,
-    first: u64,
-    second: u64,
-    third: u64,
-    fourth: u64,
-) -> io::Result<Loaded> {
-    let numbers = l.numbers;
-    if letter == b'T' {
-        Ok(load(l, first, second, third, fourth))
-    } else if letter == b'X' {
-        let v = settings_of(numbers, first).validate();
-        super::wire::write(rt, b'X', field_of(v), 0, 0, 0)?;
-        Ok(l)
-    } else {
-        write_settings(rt, Cartesian3DTrackerConfig::default())?;
-        Ok(l)
+pub fn run(rt: &impl Print, l: Loaded, line: Line) -> io::Result<Loaded> {
+    match line.letter {
+        b'T' => Ok(load(l, line)),
+        b'X' => {
+            let v = settings_of(l.numbers, line.numbers[0]).validate();
+            wire::write(rt, b'X', [field_of(v), 0, 0, 0])?;
+            Ok(l)
+        }
+        _ => {
+            write_settings(rt, Cartesian3DTrackerConfig::default())?;
+            Ok(l)
+        }
     }
 }
 
-fn bits_of_f64(x: OptionalF64) -> u64 {
+fn bits_of_f64(x: Option<f64>) -> u64 {
     match x {
-        OptionalF64::None => 0,
-        OptionalF64::Some(v) => bits_of(v),
+        None => 0,
+        Some(v) => bits_of(v),
     }
 }
 
-fn bits_of_i64(x: OptionalI64) -> u64 {
+fn bits_of_i64(x: Option<i64>) -> u64 {
     match x {
-        OptionalI64::None => 0,
-        OptionalI64::Some(v) => bits(v),
+        None => 0,
+        Some(v) => bits(v),
     }
 }
 
-fn bits_of_u32(x: OptionalU32) -> u64 {
+fn bits_of_u32(x: Option<u32>) -> u64 {
     match x {
-        OptionalU32::None => 0,
-        OptionalU32::Some(v) => v as u64,
+        None => 0,
+        Some(v) => v as u64,
     }
 }
 
-fn set_f64(x: OptionalF64) -> u64 {
+fn set_f64(x: Option<f64>) -> u64 {
     match x {
-        OptionalF64::None => 0,
-        OptionalF64::Some(_) => 1,
+        None => 0,
+        Some(_) => 1,
     }
 }
 
-fn set_i64(x: OptionalI64) -> u64 {
+fn set_i64(x: Option<i64>) -> u64 {
     match x {
-        OptionalI64::None => 0,
-        OptionalI64::Some(_) => 1,
+        None => 0,
+        Some(_) => 1,
     }
 }
 
-fn set_u32(x: OptionalU32) -> u64 {
+fn set_u32(x: Option<u32>) -> u64 {
     match x {
-        OptionalU32::None => 0,
-        OptionalU32::Some(_) => 1,
+        None => 0,
+        Some(_) => 1,
     }
 }
 
@@ -213,62 +151,46 @@ fn write_settings(rt: &impl Print, c: Cartesian3DTrackerConfig) -> io::Result<()
 // The fields up to the frame's name.
 fn write_common(rt: &impl Print, c: Cartesian3DTrackerConfig) -> io::Result<()> {
     let life = c.lifecycle;
-    let threshold = c.new_track_score_threshold;
-    let frame = c.frame_id;
-    let bytes = frame.bytes;
-    super::wire::write(
-        rt,
-        b'Z',
+    let [first, second, third, fourth] = names::words_of(&c.frame_id.bytes);
+    let times = [
         life.confirm_min_observation_times as u64,
         bits(life.tentative_timeout_ns),
         bits(life.confirmed_to_lost_ns),
         bits(life.lost_to_delete_ns),
-    )?;
-    super::wire::write(
-        rt,
-        b'Z',
-        bits_of_f64(threshold),
+    ];
+    wire::write(rt, b'Z', times)?;
+    let frame = [
+        bits_of_f64(c.new_track_score_threshold),
         c.max_contributing_sensors as u64,
-        frame.length as u64,
-        gathered(bytes, 0),
-    )?;
-    super::wire::write(
-        rt,
-        b'Z',
-        gathered(bytes, 8),
-        gathered(bytes, 16),
-        gathered(bytes, 24),
-        bits_of(c.accel_spectral_density),
-    )
+        c.frame_id.length as u64,
+        first,
+    ];
+    wire::write(rt, b'Z', frame)?;
+    let density = bits_of(c.accel_spectral_density);
+    wire::write(rt, b'Z', [second, third, fourth, density])
 }
 
 // The fields behind the frame's name but one, and which are set.
 fn write_tracker(rt: &impl Print, c: Cartesian3DTrackerConfig) -> io::Result<()> {
-    let threshold = c.new_track_score_threshold;
-    let window = c.recent_track_window_ns;
-    let distance = c.min_birth_distance_m;
-    let persistence = c.birth_persistence;
-    let deviation = c.velocity_measurement_std;
-    let set = set_f64(threshold) % 2
-        + set_i64(window) % 2 * 2
-        + set_f64(distance) % 2 * 4
-        + set_u32(persistence) % 2 * 8
-        + set_f64(deviation) % 2 * 16;
-    super::wire::write(
-        rt,
-        b'Z',
+    let set = set_f64(c.new_track_score_threshold) % 2
+        + set_i64(c.recent_track_window_ns) % 2 * 2
+        + set_f64(c.min_birth_distance_m) % 2 * 4
+        + set_u32(c.birth_persistence) % 2 * 8
+        + set_f64(c.velocity_measurement_std) % 2 * 16;
+    let pairing = [
         bits_of(c.initial_velocity_variance),
         bits_of(c.gate_squared_mahalanobis),
         bits_of(c.class_prior_penalty),
-        bits_of_i64(window),
-    )?;
-    super::wire::write(
-        rt,
-        b'Z',
-        bits_of_f64(distance),
-        bits_of_u32(persistence),
+        bits_of_i64(c.recent_track_window_ns),
+    ];
+    wire::write(rt, b'Z', pairing)?;
+    let births = [
+        bits_of_f64(c.min_birth_distance_m),
+        bits_of_u32(c.birth_persistence),
         bits_of(c.birth_candidate_radius_m),
         bits(c.birth_candidate_timeout_ns),
-    )?;
-    super::wire::write(rt, b'Z', bits_of_f64(deviation), set, 0, 0)
+    ];
+    wire::write(rt, b'Z', births)?;
+    let deviation = bits_of_f64(c.velocity_measurement_std);
+    wire::write(rt, b'Z', [deviation, set, 0, 0])
 }

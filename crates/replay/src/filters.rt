@@ -1,8 +1,13 @@
 // Kalman filters, by calls.
-use detections::Velocity;
-use filter::{KalmanFilter, Outcome, Step};
-use math::linalg::{Distance, Refusal};
+ghost use Rattle.std.specs.Prelude.{◌+◌, ◌≤◌};
+
+use super::pairs::Seen;
+use detections::PlanarVelocity;
+use filter::{KalmanFilter, Step};
+use math::linalg::Refusal;
 use std::io;
+use wire::Line;
+use wire::floats::{bits_of, number_of};
 
 // A filter, and numbers that calls take: 6 of a state, 36 of its covariance, 3 of a position, 9 of its covariance, 2 of a velocity and 1 where there is one.
 #[derive(Clone, Copy)]
@@ -31,160 +36,99 @@ pub fn code_of(why: Refusal) -> u64 {
     }
 }
 
-// Six numbers, from the first.
-fn state_of(numbers: [f64; 57]) -> [f64; 6] {
-    let mut state = [0.0; 6];
-    let mut i: usize = 0;
-    while i < 6 {
-        state[i] = numbers[i];
-        i += 1;
-    }
-    state
-}
-
-// Thirty-six numbers, from the seventh.
-fn covariance_of(numbers: [f64; 57]) -> [f64; 36] {
-    let mut covariance = [0.0; 36];
-    let mut i: usize = 0;
-    while i < 36 {
-        covariance[i] = numbers[i + 6];
-        i += 1;
-    }
-    covariance
-}
-
-fn position_of(numbers: [f64; 57]) -> [f64; 3] {
-    [numbers[42], numbers[43], numbers[44]]
-}
-
-// Nine numbers, from the forty-sixth.
-fn noise_of(numbers: [f64; 57]) -> [f64; 9] {
-    let mut noise = [0.0; 9];
-    let mut i: usize = 0;
-    while i < 9 {
-        noise[i] = numbers[i + 45];
-        i += 1;
-    }
-    noise
+// Some of the numbers, from `from` on.
+fn part<const N: usize>(numbers: &[f64; 57], from: usize) -> [f64; N]
+    requires { from + N ≤ 57 }
+{
+    let mut part = [0.0; N];
+    part.copy_from_slice(&numbers[from..from + N]);
+    part
 }
 
 // The last three.
-fn velocity_of(numbers: [f64; 57]) -> Velocity {
+fn velocity_of(numbers: [f64; 57]) -> Option<PlanarVelocity> {
     if numbers[56] > 0.0 {
-        Velocity::Measured(numbers[54], numbers[55])
+        Some(PlanarVelocity {
+            x: numbers[54],
+            y: numbers[55],
+        })
     } else {
-        Velocity::Unmeasured
+        None
     }
 }
 
-// Number i of the filter: its state, its covariance, zeros after them.
-fn number_at(f: KalmanFilter, i: usize) -> u64 {
-    if i < 6 {
-        super::floats::bits_of(f.state[i])
-    } else if i < 42 {
-        super::floats::bits_of(f.covariance[i - 6])
-    } else {
-        0
-    }
-}
-
-// Writes a filter in eleven lines.
+// Writes a filter in eleven lines: its state, its covariance, zeros after them.
 fn write_filter(rt: &impl Print, f: KalmanFilter) -> io::Result<()> {
-    let mut i: usize = 0;
-    while i < 44 {
-        super::wire::write(
-            rt,
-            b'V',
-            number_at(f, i),
-            number_at(f, i + 1),
-            number_at(f, i + 2),
-            number_at(f, i + 3),
-        )?;
-        i += 4;
+    let mut numbers = [0; 44];
+    for (place, x) in numbers.iter_mut().zip(f.state.iter().chain(&f.covariance)) {
+        *place = bits_of(*x);
+    }
+    let (lines, _) = numbers.as_slice().as_chunks::<4>();
+    for line in lines {
+        wire::write(rt, b'V', *line)?;
     }
     Ok(())
 }
 
 // Writes what a step answers and leaves.
-fn with_step(rt: &impl Print, numbers: [f64; 57], s: Step) -> io::Result<Filters> {
+fn with_step(rt: &impl Print, r: Filters, s: Step) -> io::Result<Filters> {
     let outcome = s.outcome;
     let filter = s.filter;
     match outcome {
-        Outcome::Done => super::wire::write(rt, b'F', 0, 0, 0, 0)?,
-        Outcome::Refused(why) => super::wire::write(rt, b'F', code_of(why), 0, 0, 0)?,
+        Ok(()) => wire::write(rt, b'F', [0, 0, 0, 0])?,
+        Err(why) => wire::write(rt, b'F', [code_of(why), 0, 0, 0])?,
     }
     write_filter(rt, filter)?;
-    Ok(Filters { filter, numbers })
+    Ok(Filters { filter, ..r })
 }
 
-fn write_distance(rt: &impl Print, d: Distance) -> io::Result<()> {
+fn write_distance(rt: &impl Print, d: Result<f64, math::linalg::Refusal>) -> io::Result<()> {
     match d {
-        Distance::Squared(x) => super::wire::write(rt, b'E', 0, super::floats::bits_of(x), 0, 0),
-        Distance::Refused(why) => super::wire::write(rt, b'E', code_of(why), 0, 0, 0),
+        Ok(x) => wire::write(rt, b'E', [0, bits_of(x), 0, 0]),
+        Err(why) => wire::write(rt, b'E', [code_of(why), 0, 0, 0]),
     }
 }
 
 // Three numbers into the places from `place` on.
-fn load(r: Filters, place: u64, a: u64, b: u64, c: u64) -> Filters {
-    let filter = r.filter;
-    let mut numbers = r.numbers;
+fn load(mut r: Filters, line: Line) -> Filters {
+    let [place, a, b, c] = line.numbers;
     let i = (place % 55) as usize;
-    numbers[i] = super::floats::number_of(a);
-    numbers[i + 1] = super::floats::number_of(b);
-    numbers[i + 2] = super::floats::number_of(c);
-    Filters { filter, numbers }
+    r.numbers[i] = number_of(a);
+    r.numbers[i + 1] = number_of(b);
+    r.numbers[i + 2] = number_of(c);
+    r
 }
 
 // One call: see main.rt.
-pub fn run(
-    rt: &impl Print,
-    r: Filters,
-    letter: u8,
-    first: u64,
-    second: u64,
-    third: u64,
-    fourth: u64,
-) -> io::Result<Filters> {
-    let filter = r.filter;
-    let numbers = r.numbers;
-    let a = super::floats::number_of(first);
-    let b = super::floats::number_of(second);
-    let c = super::floats::number_of(third);
-    if letter == b'V' {
-        Ok(load(r, first, second, third, fourth))
-    } else if letter == b'K' {
-        with_step(
+pub fn run(rt: &impl Print, r: Filters, line: Line) -> io::Result<Filters> {
+    let [first, second, third, _] = line.numbers;
+    let a = number_of(first);
+    let b = number_of(second);
+    let c = number_of(third);
+    let position = part(&r.numbers, 42);
+    let noise = part(&r.numbers, 45);
+    match line.letter {
+        b'V' => Ok(load(r, line)),
+        b'K' => with_step(
             rt,
-            numbers,
-            filter::create(state_of(numbers), covariance_of(numbers)),
-        )
-    } else if letter == b'P' {
-        with_step(rt, numbers, filter::predict(filter, a, b))
-    } else if letter == b'U' {
-        with_step(
-            rt,
-            numbers,
-            filter::update_position(filter, position_of(numbers), noise_of(numbers)),
-        )
-    } else if letter == b'W' {
-        with_step(rt, numbers, filter::update_velocity(filter, [a, b], c))
-    } else if super::pairs::is_pairs(letter) {
-        super::pairs::run(
-            rt,
-            filter,
-            position_of(numbers),
-            noise_of(numbers),
-            velocity_of(numbers),
-            letter,
-            [a, b, c],
-            fourth,
-        )?;
-        Ok(r)
-    } else {
-        write_distance(
-            rt,
-            filter::squared_mahalanobis(filter, position_of(numbers), noise_of(numbers)),
-        )?;
-        Ok(r)
+            r,
+            filter::create(part(&r.numbers, 0), part(&r.numbers, 6)),
+        ),
+        b'P' => with_step(rt, r, filter::predict(r.filter, a, b)),
+        b'U' => with_step(rt, r, filter::update_position(r.filter, position, noise)),
+        b'W' => with_step(rt, r, filter::update_velocity(r.filter, [a, b], c)),
+        b'D' => {
+            write_distance(rt, filter::squared_mahalanobis(r.filter, position, noise))?;
+            Ok(r)
+        }
+        _ => {
+            let seen = Seen {
+                position,
+                covariance: noise,
+                velocity: velocity_of(r.numbers),
+            };
+            super::pairs::run(rt, r.filter, seen, line)?;
+            Ok(r)
+        }
     }
 }

@@ -1,7 +1,9 @@
 // Lifecycles and lists of sensors, by calls.
 use lifecycle::sensors::Sensors;
-use lifecycle::{LifecycleConfig, Observation, TrackLifecycle, TrackLifecycleState, Verdict};
+use lifecycle::{LifecycleConfig, TrackLifecycle, TrackLifecycleState, Verdict};
 use std::io;
+use wire::Line;
+use wire::signs::{bits, signed};
 
 #[derive(Clone, Copy)]
 pub struct Lives {
@@ -28,24 +30,6 @@ pub fn new() -> Lives {
     }
 }
 
-// The signed number with these bits.
-pub fn signed(b: u64) -> i64 {
-    if b < 9223372036854775808 {
-        b as i64
-    } else {
-        -1 - ((18446744073709551615 - b) as i64)
-    }
-}
-
-// The bits of a signed number.
-pub fn bits(n: i64) -> u64 {
-    if n < 0 {
-        18446744073709551615 - ((-1 - n) as u64)
-    } else {
-        n as u64
-    }
-}
-
 fn letter_of(state: TrackLifecycleState) -> u8 {
     match state {
         TrackLifecycleState::Tentative => b'T',
@@ -55,18 +39,18 @@ fn letter_of(state: TrackLifecycleState) -> u8 {
     }
 }
 
-fn time_of(o: Observation) -> u64 {
+fn time_of(o: Option<i64>) -> u64 {
     match o {
-        Observation::Never => 0,
-        Observation::At(t) => bits(t),
+        None => 0,
+        Some(t) => bits(t),
     }
 }
 
 // 1 where there is a time.
-fn present(o: Observation) -> u64 {
+fn present(o: Option<i64>) -> u64 {
     match o {
-        Observation::Never => 0,
-        Observation::At(_) => 1,
+        None => 0,
+        Some(_) => 1,
     }
 }
 
@@ -75,13 +59,15 @@ fn write_life(rt: &impl Print, l: TrackLifecycle) -> io::Result<()> {
     let seen = l.last_observation;
     let counted = l.last_counted;
     let flags = present(seen) % 2 * 4294967296 + present(counted) % 2 * 8589934592;
-    super::wire::write(
+    wire::write(
         rt,
         letter_of(state),
-        bits(l.created_at),
-        time_of(seen),
-        time_of(counted),
-        (l.observation_times as u64) + flags,
+        [
+            bits(l.created_at),
+            time_of(seen),
+            time_of(counted),
+            (l.observation_times as u64) + flags,
+        ],
     )
 }
 
@@ -95,134 +81,72 @@ fn sensor_at(s: Sensors, i: usize) -> u64 {
 }
 
 fn write_sensors(rt: &impl Print, s: Sensors) -> io::Result<()> {
-    super::wire::write(
-        rt,
-        b'S',
-        sensor_at(s, 0),
-        sensor_at(s, 1),
-        sensor_at(s, 2),
-        sensor_at(s, 3),
-    )?;
-    super::wire::write(
-        rt,
-        b'S',
-        sensor_at(s, 4),
-        sensor_at(s, 5),
-        sensor_at(s, 6),
-        sensor_at(s, 7),
-    )?;
-    super::wire::write(
-        rt,
-        b'S',
-        sensor_at(s, 8),
-        sensor_at(s, 9),
-        sensor_at(s, 10),
-        sensor_at(s, 11),
-    )?;
-    super::wire::write(
-        rt,
-        b'S',
-        sensor_at(s, 12),
-        sensor_at(s, 13),
-        sensor_at(s, 14),
-        sensor_at(s, 15),
-    )
+    for i in [0, 4, 8, 12] {
+        let four = [
+            sensor_at(s, i),
+            sensor_at(s, i + 1),
+            sensor_at(s, i + 2),
+            sensor_at(s, i + 3),
+        ];
+        wire::write(rt, b'S', four)?;
+    }
+    Ok(())
 }
 
 fn with_life(rt: &impl Print, r: Lives, life: TrackLifecycle) -> io::Result<Lives> {
     write_life(rt, life)?;
-    let config = r.config;
-    let sensors = r.sensors;
-    Ok(Lives {
-        life,
-        config,
-        sensors,
-        limit: r.limit,
-    })
+    Ok(Lives { life, ..r })
 }
 
 fn with_sensors(rt: &impl Print, r: Lives, sensors: Sensors, limit: usize) -> io::Result<Lives> {
     write_sensors(rt, sensors)?;
-    let config = r.config;
-    let life = r.life;
     Ok(Lives {
-        life,
-        config,
         sensors,
         limit,
+        ..r
     })
 }
 
-fn with_config(r: Lives, config: LifecycleConfig) -> Lives {
-    let life = r.life;
-    let sensors = r.sensors;
-    Lives {
-        life,
-        config,
-        sensors,
-        limit: r.limit,
-    }
+// A number of 32 bits, the lower ones of a word.
+pub fn count_of(n: u64) -> u32 {
+    (n % 4294967296) as u32
 }
 
 // One call on the life.
 fn run_life(rt: &impl Print, r: Lives, letter: u8, first: u64) -> io::Result<Lives> {
-    let life = r.life;
-    let config = r.config;
-    if letter == b'N' {
-        with_life(rt, r, TrackLifecycle::new(signed(first)))
-    } else if letter == b'R' {
-        with_life(rt, r, lifecycle::registered(life, signed(first), config))
-    } else if letter == b'C' {
-        with_life(
-            rt,
-            r,
-            lifecycle::credited(life, (first % 4294967296) as u32, config),
-        )
-    } else {
-        let a = lifecycle::aged(life, signed(first), config);
-        let left = a.lifecycle;
-        with_life(rt, r, left)
-    }
+    let life = match letter {
+        b'N' => TrackLifecycle::new(signed(first)),
+        b'R' => lifecycle::registered(r.life, signed(first), r.config),
+        b'C' => lifecycle::credited(r.life, count_of(first), r.config),
+        _ => lifecycle::aged(r.life, signed(first), r.config).lifecycle,
+    };
+    with_life(rt, r, life)
 }
 
 // One call: see main.rt.
-pub fn run(
-    rt: &impl Print,
-    r: Lives,
-    letter: u8,
-    first: u64,
-    second: u64,
-    third: u64,
-    fourth: u64,
-) -> io::Result<Lives> {
-    let sensors = r.sensors;
-    if letter == b'G' {
-        let config = LifecycleConfig {
-            confirm_min_observation_times: (fourth % 4294967296) as u32,
-            tentative_timeout_ns: signed(first),
-            confirmed_to_lost_ns: signed(second),
-            lost_to_delete_ns: signed(third),
-        };
-        Ok(with_config(r, config))
-    } else if letter == b'L' {
-        with_sensors(
-            rt,
-            r,
-            Sensors {
+pub fn run(rt: &impl Print, r: Lives, line: Line) -> io::Result<Lives> {
+    let [first, second, third, fourth] = line.numbers;
+    match line.letter {
+        b'G' => {
+            let config = LifecycleConfig {
+                confirm_min_observation_times: count_of(fourth),
+                tentative_timeout_ns: signed(first),
+                confirmed_to_lost_ns: signed(second),
+                lost_to_delete_ns: signed(third),
+            };
+            Ok(Lives { config, ..r })
+        }
+        b'L' => {
+            let empty = Sensors {
                 ids: [0; 16],
                 count: 0,
-            },
-            first as usize,
-        )
-    } else if letter == b'S' {
-        let limit = r.limit;
-        with_sensors(
-            rt,
-            r,
-            lifecycle::sensors::record_sensor(sensors, (first % 4294967296) as u32, limit),
-            limit,
-        )
-    } else {
-        run_life(rt, r, letter, first)
+            };
+            with_sensors(rt, r, empty, first as usize)
+        }
+        b'S' => {
+            let more = lifecycle::sensors::record_sensor(r.sensors, count_of(first), r.limit);
+            with_sensors(rt, r, more, r.limit)
+        }
+        _ => run_life(rt, r, line.letter, first),
     }
 }

@@ -28,20 +28,21 @@
 
 mod checks;
 mod filters;
-mod floats;
 mod lines;
 mod lives;
 mod pairs;
 mod roots;
 mod tables;
-mod wire;
 
 use checks::Loaded;
 use filters::Filters;
+use lines::Input;
 use lives::Lives;
 use std::io;
-use wire::Input;
+use tables::Costs;
+use wire::Line;
 
+// What the calls leave, but for what is loaded of tables and lines.
 #[derive(Clone, Copy)]
 struct State {
     lives: Lives,
@@ -49,95 +50,16 @@ struct State {
     checks: Loaded,
 }
 
-// Whether a call is one on a filter.
-fn is_filters(letter: u8) -> bool {
-    letter == b'V'
-        || letter == b'K'
-        || letter == b'P'
-        || letter == b'U'
-        || letter == b'W'
-        || letter == b'D'
-        || pairs::is_pairs(letter)
-}
-
-// Whether a call is one on settings.
-fn is_checks(letter: u8) -> bool {
-    letter == b'T' || letter == b'X' || letter == b'Z'
-}
-
-// Whether a call is one on a table.
-fn is_tables(letter: u8) -> bool {
-    letter == b'B' || letter == b'M' || letter == b'H'
-}
-
-// Runs one line's call on a table; how many costs are loaded then.
-fn run_table(
-    rt: &impl Print,
-    costs: &mut [f64; 4096],
-    loaded: usize,
-    l: &[u8; 70],
-) -> io::Result<usize> {
-    let first = wire::number(l, 2);
-    let second = wire::number(l, 19);
-    let third = wire::number(l, 36);
-    let fourth = wire::number(l, 53);
-    tables::run(rt, costs, loaded, l[0], first, second, third, fourth)
-}
-
-// Whether a call is one on a line of `assign`.
-fn is_lines(letter: u8) -> bool {
-    letter == b'I' || letter == b'Y'
-}
-
-// Runs one line's call on a line of `assign`; how many bytes are loaded then.
-fn run_line(
-    rt: &impl Print,
-    input: &mut [u8; 16416],
-    loaded: usize,
-    l: &[u8; 70],
-) -> io::Result<usize> {
-    let first = wire::number(l, 2);
-    let second = wire::number(l, 19);
-    let third = wire::number(l, 36);
-    let fourth = wire::number(l, 53);
-    lines::run(rt, input, loaded, l[0], first, second, third, fourth)
-}
-
-// Runs one line's other call.
-fn run(rt: &impl Print, state: State, l: &[u8; 70]) -> io::Result<State> {
-    let lives = state.lives;
-    let filters = state.filters;
-    let checks = state.checks;
-    let letter = l[0];
-    let first = wire::number(l, 2);
-    let second = wire::number(l, 19);
-    let third = wire::number(l, 36);
-    let fourth = wire::number(l, 53);
-    if letter == b'Q' {
-        roots::write(rt, first, second, third, fourth)?;
-        Ok(state)
-    } else if is_filters(letter) {
-        let filters = filters::run(rt, filters, letter, first, second, third, fourth)?;
-        Ok(State {
-            lives,
-            filters,
-            checks,
-        })
-    } else if is_checks(letter) {
-        let checks = checks::run(rt, checks, letter, first, second, third, fourth)?;
-        Ok(State {
-            lives,
-            filters,
-            checks,
-        })
-    } else {
-        let lives = lives::run(rt, lives, letter, first, second, third, fourth)?;
-        Ok(State {
-            lives,
-            filters,
-            checks,
-        })
+// Runs a call on a life, on sensors, on a filter or on settings.
+fn run(rt: &impl Print, state: &mut State, line: Line) -> io::Result<()> {
+    match line.letter {
+        b'V' | b'K' | b'P' | b'U' | b'W' | b'D' | b'o' | b'p' | b'b' => {
+            state.filters = filters::run(rt, state.filters, line)?;
+        }
+        b'T' | b'X' | b'Z' => state.checks = checks::run(rt, state.checks, line)?,
+        _ => state.lives = lives::run(rt, state.lives, line)?,
     }
+    Ok(())
 }
 
 fn main(rt: HostRuntime) -> io::Result<()> {
@@ -147,23 +69,19 @@ fn main(rt: HostRuntime) -> io::Result<()> {
         filters: filters::new(),
         checks: checks::new(),
     };
-    let mut costs = [0.0f64; 4096];
-    let mut loaded = 0usize;
-    let mut input = [0u8; 16416];
-    let mut held = 0usize;
+    let mut costs = Costs::new();
+    let mut input = Input::new();
+    // Far more lines than an input has: a loop has to end.
     for _ in 0..1099511627776u64 {
-        let Input::Line(l) = wire::read(&mut stdin)? else {
+        let Some(line) = wire::read(&mut stdin)? else {
             break;
         };
-        if is_tables(l[0]) {
-            loaded = run_table(&rt, &mut costs, loaded, &l)?;
-            continue;
+        match line.letter {
+            b'B' | b'M' | b'H' => tables::run(&rt, &mut costs, line)?,
+            b'I' | b'Y' => lines::run(&rt, &mut input, line)?,
+            b'Q' => roots::write(&rt, line)?,
+            _ => run(&rt, &mut state, line)?,
         }
-        if is_lines(l[0]) {
-            held = run_line(&rt, &mut input, held, &l)?;
-            continue;
-        }
-        state = run(&rt, state, &l)?;
     }
     Ok(())
 }

@@ -1,38 +1,38 @@
 // Detections beside a track, by calls.
 use detections::pairs::{ClassPrior, PairConfig, Rule, Target, Verdict};
-use detections::{Class, Detection, Score, Velocity};
+use detections::{Detection, PlanarVelocity};
 use filter::KalmanFilter;
-use math::linalg::Validity;
 use std::io;
+use wire::Line;
+use wire::floats::{bits_of, number_of};
 
-// Whether a call is one on a detection.
-pub fn is_pairs(letter: u8) -> bool {
-    letter == b'o' || letter == b'p' || letter == b'b'
+// What is seen of a detection, but for its class and its score.
+#[derive(Clone, Copy)]
+pub struct Seen {
+    pub position: [f64; 3],
+    pub covariance: [f64; 9],
+    pub velocity: Option<PlanarVelocity>,
 }
 
 // The class in a number's lowest 21 bits.
-fn class_of(labels: u64) -> Class {
+fn class_of(labels: u64) -> Option<u32> {
     let digit = labels % 2097152;
     if digit == 0 {
-        Class::Unknown
+        None
     } else {
-        Class::Label((digit - 1) as u32)
+        Some((digit - 1) as u32)
     }
 }
 
-fn prior_of(label: Class, confidence: f64) -> ClassPrior {
+fn prior_of(label: Option<u32>, confidence: f64) -> Option<ClassPrior> {
     match label {
-        Class::Unknown => ClassPrior::NoPrior,
-        Class::Label(x) => ClassPrior::Prior(x, confidence),
+        None => None,
+        Some(label) => Some(ClassPrior { label, confidence }),
     }
 }
 
-fn score_of(scored: u64, score: f64) -> Score {
-    if scored == 0 {
-        Score::Unscored
-    } else {
-        Score::Scored(score)
-    }
+fn score_of(scored: u64, score: f64) -> Option<f64> {
+    if scored == 0 { None } else { Some(score) }
 }
 
 fn flag(x: bool) -> u64 {
@@ -41,15 +41,8 @@ fn flag(x: bool) -> u64 {
 
 fn write_check(rt: &impl Print, d: Detection) -> io::Result<()> {
     match detections::validate_detection(d) {
-        Validity::Valid => super::wire::write(rt, b'o', 0, 0, 0, 0),
-        Validity::Refused(why) => super::wire::write(
-            rt,
-            b'o',
-            super::filters::code_of(why),
-            0,
-            0,
-            0,
-        ),
+        Ok(()) => wire::write(rt, b'o', [0, 0, 0, 0]),
+        Err(why) => wire::write(rt, b'o', [super::filters::code_of(why), 0, 0, 0]),
     }
 }
 
@@ -63,38 +56,17 @@ fn code_of(rule: Rule) -> u64 {
 
 fn write_verdict(rt: &impl Print, v: Verdict) -> io::Result<()> {
     match v {
-        Verdict::Allowed(cost) => super::wire::write(
-            rt,
-            b'p',
-            0,
-            0,
-            super::floats::bits_of(cost),
-            0,
-        ),
-        Verdict::Forbidden(rule) => super::wire::write(rt, b'p', 0, code_of(rule), 0, 0),
-        Verdict::Refused(why) => super::wire::write(
-            rt,
-            b'p',
-            super::filters::code_of(why),
-            0,
-            0,
-            0,
-        ),
+        Verdict::Allowed(cost) => wire::write(rt, b'p', [0, 0, bits_of(cost), 0]),
+        Verdict::Forbidden(rule) => wire::write(rt, b'p', [0, code_of(rule), 0, 0]),
+        Verdict::Refused(why) => wire::write(rt, b'p', [super::filters::code_of(why), 0, 0, 0]),
     }
 }
 
 // A detection is paired only where it passes its check.
 fn write_pair(rt: &impl Print, t: Target, d: Detection, config: PairConfig) -> io::Result<()> {
     match detections::validate_detection(d) {
-        Validity::Valid => write_verdict(rt, detections::pairs::pair_verdict(t, d, config)),
-        Validity::Refused(why) => super::wire::write(
-            rt,
-            b'p',
-            super::filters::code_of(why),
-            0,
-            0,
-            0,
-        ),
+        Ok(()) => write_verdict(rt, detections::pairs::pair_verdict(t, d, config)),
+        Err(why) => wire::write(rt, b'p', [super::filters::code_of(why), 0, 0, 0]),
     }
 }
 
@@ -109,50 +81,51 @@ fn target_of(f: KalmanFilter, labels: u64, confidence: f64) -> Target {
 fn write_birth(
     rt: &impl Print,
     f: KalmanFilter,
-    z: [f64; 3],
-    score: Score,
+    d: Detection,
     threshold: f64,
     radius: f64,
 ) -> io::Result<()> {
     let place = [f.state[0], f.state[1], f.state[2]];
-    super::wire::write(
+    let z = d.position;
+    wire::write(
         rt,
         b'b',
-        flag(detections::births::is_score_below(score, threshold)),
-        super::floats::bits_of(detections::births::distance(place, z)),
-        flag(detections::births::is_nearer(place, z, radius)),
-        0,
+        [
+            flag(detections::births::is_score_below(d.score, threshold)),
+            bits_of(detections::births::distance(place, z)),
+            flag(detections::births::is_nearer(place, z, radius)),
+            0,
+        ],
     )
 }
 
 // One call: see main.rt.
-pub fn run(
-    rt: &impl Print,
-    f: KalmanFilter,
-    position: [f64; 3],
-    covariance: [f64; 9],
-    velocity: Velocity,
-    letter: u8,
-    x: [f64; 3],
-    last: u64,
-) -> io::Result<()> {
-    let score = score_of(last, x[0]);
+pub fn run(rt: &impl Print, f: KalmanFilter, seen: Seen, line: Line) -> io::Result<()> {
+    let [first, second, third, last] = line.numbers;
+    let a = number_of(first);
+    let b = number_of(second);
+    let c = number_of(third);
+    let Seen {
+        position,
+        covariance,
+        velocity,
+    } = seen;
     let d = Detection {
         position,
         covariance,
         velocity,
         class_label: class_of(last / 4398046511104),
-        score,
+        score: score_of(last, a),
     };
-    if letter == b'o' {
-        write_check(rt, d)
-    } else if letter == b'p' {
-        let config = PairConfig {
-            gate_squared_mahalanobis: x[0],
-            class_prior_penalty: x[1],
-        };
-        write_pair(rt, target_of(f, last, x[2]), d, config)
-    } else {
-        write_birth(rt, f, position, score, x[1], x[2])
+    match line.letter {
+        b'o' => write_check(rt, d),
+        b'p' => {
+            let config = PairConfig {
+                gate_squared_mahalanobis: a,
+                class_prior_penalty: b,
+            };
+            write_pair(rt, target_of(f, last, c), d, config)
+        }
+        _ => write_birth(rt, f, d, b, c),
     }
 }

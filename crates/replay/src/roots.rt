@@ -1,16 +1,22 @@
 // Roots of numbers given by their bits.
-use square_root::SquareRoot;
 use std::io;
+use wire::Line;
+use wire::floats::{bits_of, number_of};
 
 // The bits of the root of the number with the bits b, or the refusal's number.
 fn answer(b: u64) -> u64 {
-    match square_root::root(super::floats::number_of(b)) {
-        SquareRoot::Value(v) => super::floats::bits_of(v),
-        SquareRoot::Refused => 9,
+    match square_root::root(number_of(b)) {
+        Some(v) => bits_of(v),
+        None => 9,
     }
 }
 
-// Writes the roots of four numbers.
-pub fn write(rt: &impl Print, a: u64, b: u64, c: u64, d: u64) -> io::Result<()> {
-    super::wire::write(rt, b'Q', answer(a), answer(b), answer(c), answer(d))
+// Writes the roots of a line's four numbers.
+pub fn write(rt: &impl Print, line: Line) -> io::Result<()> {
+    let [first, second, third, fourth] = line.numbers;
+    wire::write(
+        rt,
+        b'Q',
+        [answer(first), answer(second), answer(third), answer(fourth)],
+    )
 }

@@ -10,7 +10,7 @@ pub fn u32_of(word: u64) -> u32 {
     (word % 4294967296) as u32
 }
 
-fn lifecycle_of(w: [u64; 28]) -> LifecycleConfig {
+fn lifecycle_of(w: &[u64; 28]) -> LifecycleConfig {
     LifecycleConfig {
         confirm_min_observation_times: u32_of(w[0]),
         tentative_timeout_ns: signed(w[1]),
@@ -19,15 +19,15 @@ fn lifecycle_of(w: [u64; 28]) -> LifecycleConfig {
     }
 }
 
-fn frame_of(w: [u64; 28]) -> FrameName {
-    let bytes = wire::names::bytes_of(w[5], w[6], w[7], w[8]);
+fn frame_of(w: &[u64; 28]) -> FrameName {
+    let bytes = wire::names::bytes_of([w[5], w[6], w[7], w[8]]);
     FrameName {
         bytes,
         length: w[9] as usize,
     }
 }
 
-pub fn settings_of(w: [u64; 28]) -> PkSettings {
+pub fn settings_of(w: &[u64; 28]) -> PkSettings {
     PkSettings {
         lifecycle: lifecycle_of(w),
         max_contributing_sensors: w[4] as usize,

@@ -17,22 +17,22 @@ mod track;
 mod words;
 
 use std::io;
-use wire::Input;
 
 fn main(rt: HostRuntime) -> io::Result<()> {
     let mut stdin = rt.stdin();
     let mut tracker = records::tracker::fresh(c_tracker::settings_default());
     let mut loads = loads::nothing();
+    // Far more lines than an input has: a loop has to end.
     for _ in 0..1099511627776u64 {
-        let Input::Read(line) = wire::read(&mut stdin)? else {
+        let Some(line) = wire::read(&mut stdin)? else {
             break;
         };
         if loads::is_load(line.letter) {
-            loads = loads::load(loads, line);
+            loads::load(&mut loads, line);
             continue;
         }
-        tracker = runs::run(&rt, tracker, loads, line)?;
-        loads = loads::after(loads, line.letter);
+        tracker = runs::run(&rt, tracker, &loads, line)?;
+        loads::after(&mut loads, line.letter);
     }
     Ok(())
 }

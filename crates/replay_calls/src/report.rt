@@ -1,46 +1,31 @@
 // The words of a report.
-use super::words::{push, push_double, push_small, push_time};
+use super::words::Words;
 use batch_records::{PkAssociation, PkReport};
+use wire::floats::bits_of;
+use wire::signs::bits;
 
-fn push_association(words: &mut [u64; 5256], from: usize, a: PkAssociation) -> usize {
-    let n = push(words, from, a.observation_index as u64);
-    let n = push(words, n, a.track_id);
-    let n = push_double(words, n, a.cost);
-    let n = push_small(words, n, a.outcome);
-    let n = push_small(words, n, a.has_track);
-    push_small(words, n, a.has_cost)
+fn push_association(words: &mut Words, a: &PkAssociation) {
+    words.push(a.observation_index as u64);
+    words.push(a.track_id);
+    words.push(bits_of(a.cost));
+    words.push(u64::from(a.outcome));
+    words.push(u64::from(a.has_track));
+    words.push(u64::from(a.has_cost));
 }
 
-fn push_associations(words: &mut [u64; 5256], from: usize, r: PkReport) -> usize {
-    let mut n = from;
-    for i in 0..64usize {
-        if i < r.association_count {
-            let a = r.associations[i];
-            n = push_association(words, n, a);
-            continue;
-        }
+// All words of a report.
+pub fn report_of(r: &PkReport) -> Words {
+    let mut words = Words::new(0);
+    words.push(u64::from(r.code));
+    words.push(u64::from(r.sensor_id));
+    words.push(bits(r.timestamp));
+    words.push(r.association_count as u64);
+    words.push(r.unmatched_track_count as u64);
+    for a in r.associations.iter().take(r.association_count) {
+        push_association(&mut words, a);
     }
-    n
-}
-
-fn push_unmatched(words: &mut [u64; 5256], from: usize, r: PkReport) -> usize {
-    let mut n = from;
-    for i in 0..64usize {
-        if i < r.unmatched_track_count {
-            n = push(words, n, r.unmatched_track_ids[i]);
-            continue;
-        }
+    for id in r.unmatched_track_ids.iter().take(r.unmatched_track_count) {
+        words.push(*id);
     }
-    n
-}
-
-// All words of a report; how many there are.
-pub fn push_report(words: &mut [u64; 5256], r: PkReport) -> usize {
-    let n = push_small(words, 0, r.code);
-    let n = push_small(words, n, r.sensor_id);
-    let n = push_time(words, n, r.timestamp);
-    let n = push(words, n, r.association_count as u64);
-    let n = push(words, n, r.unmatched_track_count as u64);
-    let n = push_associations(words, n, r);
-    push_unmatched(words, n, r)
+    words
 }

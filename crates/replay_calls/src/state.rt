@@ -1,62 +1,40 @@
 // The words of a state: the places of the tracker that are taken, without the settings.
-use super::words::{push, push_double, push_small, push_time};
+use super::words::Words;
 use records::tracker::PkTracker;
 use types::tracker::BirthCandidate;
+use wire::floats::bits_of;
+use wire::signs::bits;
 
-fn push_tracks(words: &mut [u64; 5256], t: PkTracker) -> usize {
-    let mut n = 0usize;
-    for i in 0..64usize {
-        if i < t.track_count {
-            let x = t.tracks[i];
-            n = super::track::push_track(words, n, x);
-            continue;
-        }
+fn push_sequences(words: &mut Words, t: &PkTracker) {
+    for x in t.sequences.iter().take(t.sequence_count) {
+        words.push(u64::from(x.sensor));
+        words.push(x.sequence);
     }
-    n
 }
 
-fn push_sequences(words: &mut [u64; 5256], from: usize, t: PkTracker) -> usize {
-    let mut n = from;
-    for i in 0..32usize {
-        if i < t.sequence_count {
-            let x = t.sequences[i];
-            let one = push_small(words, n, x.sensor);
-            n = push(words, one, x.sequence);
-            continue;
-        }
+fn push_candidate(words: &mut Words, c: &BirthCandidate) {
+    for x in &c.position {
+        words.push(bits_of(*x));
     }
-    n
+    words.push(bits(c.last_seen));
+    words.push(u64::from(c.sightings));
 }
 
-fn push_candidate(words: &mut [u64; 5256], from: usize, c: BirthCandidate) -> usize {
-    let n = push_double(words, from, c.position[0]);
-    let n = push_double(words, n, c.position[1]);
-    let n = push_double(words, n, c.position[2]);
-    let n = push_time(words, n, c.last_seen);
-    push_small(words, n, c.sightings)
-}
-
-fn push_candidates(words: &mut [u64; 5256], from: usize, t: PkTracker) -> usize {
-    let mut n = from;
-    for i in 0..64usize {
-        if i < t.candidate_count {
-            let x = t.candidates[i];
-            n = push_candidate(words, n, x);
-            continue;
-        }
+// All words of a state.
+pub fn state_of(t: &PkTracker) -> Words {
+    let mut words = Words::new(0);
+    for x in t.tracks.iter().take(t.track_count) {
+        super::track::push_track(&mut words, x);
     }
-    n
-}
-
-// All words of a state; how many there are.
-pub fn push_state(words: &mut [u64; 5256], t: PkTracker) -> usize {
-    let n = push_tracks(words, t);
-    let n = push(words, n, t.track_count as u64);
-    let n = push(words, n, t.next_track_id);
-    let n = push_time(words, n, t.last_time);
-    let n = push_sequences(words, n, t);
-    let n = push(words, n, t.sequence_count as u64);
-    let n = push_candidates(words, n, t);
-    let n = push(words, n, t.candidate_count as u64);
-    push_small(words, n, t.has_last_time)
+    words.push(t.track_count as u64);
+    words.push(t.next_track_id);
+    words.push(bits(t.last_time));
+    push_sequences(&mut words, t);
+    words.push(t.sequence_count as u64);
+    for c in t.candidates.iter().take(t.candidate_count) {
+        push_candidate(&mut words, c);
+    }
+    words.push(t.candidate_count as u64);
+    words.push(u64::from(t.has_last_time));
+    words
 }

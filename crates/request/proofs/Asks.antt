@@ -1,7 +1,7 @@
 -- The request: what head, table and end make of the line, and where its costs stand.
+use Rattle.std.specs.Prelude.{Option}
 use mathlib.Core.Path.{◌≡◌, refl, ap, sym, ◌∙◌}
 use mathlib.Core.Bool.{Bool, true, false, cond, ◌&&◌}
-use mathlib.Core.Option.{Option, none, some}
 use mathlib.Core.List.{List, [], ◌∷◌, ◌++◌}
 use Prim.Native.Nat.{ℕ, suc, ◌+◌, ◌-◌, ◌≤◌}
 use native.Mathlib.Numerals.{add-one}
@@ -12,16 +12,15 @@ use lib.IntN.{ℤ, pos, negsuc}
 use lib.ListN.{length, take, drop, get_or, set, length-drop, drop_of_length-le}
 use lib.Seq.{sets, drop-cons}
 use lib.Ieee.{Float}
-use Rattle.number.specs.Reply.{refused}
 use Rattle.kuhn_munkres.specs.Assignment.{in_one}
 use Rattle.forms.proofs.Shapes.{never, Tail, on, inner}
 use Rattle.request.specs.Listed.{after, told}
-use Rattle.request.specs.Request.{argument_of, begins, opening, Sizes, costed, columned, rowed, head_of, head_answer, Request, closing, closed, table_of, tabled, request_of, even, Stored, store_one, Filled, fill_row, rows_answer, TableRead, table_told, row_of}
-use Rattle.request.specs.Asking.{asked_reply, reply_of_asked, over, no_costs, ReadingAnswer, AskedRead}
-use Rattle.request.specs.declared.head.Head.TheVariants.{Stated, NoHead}
-use Rattle.request.specs.declared.table.Rows.TheVariants.{Read, NoRows}
-use Rattle.request.specs.declared.Asked.{Asked}
-use Rattle.request.specs.declared.Asked.TheVariants.{Table, NoRequest}
+use Rattle.request.specs.Request.{argument_of, begins, opening, Sizes, costed, columned, rowed, head_of, head_in, head_answer, Request, closing, closed, table_of, tabled, request_of, even, Stored, store_one, Filled, fill_row, rows_answer, TableRead, table_told, row_of}
+use Rattle.request.specs.Asking.{over, no_costs, ReadingAnswer}
+use Rattle.request.specs.declared.words.Found.{Found}
+use Rattle.request.specs.declared.head.Head.{Head}
+use Rattle.request.specs.declared.table.Rows.{Rows}
+use Rattle.std.proofs.Common.{Some, None}
 use Rattle.request.proofs.Lists.{rest_of, Leaves, Got, got, bracketed_leaves}
 use Rattle.request.proofs.Heads.{argument_leaves}
 use Rattle.request.proofs.Tables.{row_leaves}
@@ -54,52 +53,50 @@ module _ (s : List ℕ) (at : ℕ) where
     closing_last e = rw (end_is, eq-eqb _ _ e)
 
 -- ---- the head leaves a tail
-cost_tail : (r c : ℕ) (l x : List ℕ) (h : Sizes) (o : Option (ℤ × List ℕ)) → ((m : List ℕ) (z : ℤ) → o ≡ some (z, m) → Tail l m) → costed r c o ≡ some (h, x) → Tail l x
+cost_tail : (r c : ℕ) (l x : List ℕ) (h : Sizes) (o : Option (ℤ × List ℕ)) → ((m : List ℕ) (z : ℤ) → o ≡ Some (z, m) → Tail l m) → costed r c o ≡ Some (h, x) → Tail l x
 unfolding costed rest_of
-cost_tail r c l x h none f e = never e
-cost_tail r c l x h (some (z, m)) f e = let u : m ≡ x = ap rest_of e in rw u at (f m z refl)
+cost_tail r c l x h None f e = never e
+cost_tail r c l x h (Some (z, m)) f e = let u : m ≡ x = ap rest_of e in rw u at (f m z refl)
 
-columns_tail : (r : ℕ) (l x : List ℕ) (h : Sizes) (o : Option (ℤ × List ℕ)) → ((m : List ℕ) (z : ℤ) → o ≡ some (z, m) → Tail l m) → columned r o ≡ some (h, x) → Tail l x
+columns_tail : (r : ℕ) (l x : List ℕ) (h : Sizes) (o : Option (ℤ × List ℕ)) → ((m : List ℕ) (z : ℤ) → o ≡ Some (z, m) → Tail l m) → columned r o ≡ Some (h, x) → Tail l x
 unfolding columned
-columns_tail r l x h none f e = never e
-columns_tail r l x h (some (negsuc c, m)) f e = never e
-columns_tail r l x h (some (pos c, m)) f e = on (f m (pos c) refl) (cost_tail r c m x h (argument_of m) (λ n z q. argument_leaves m n z q) e)
+columns_tail r l x h None f e = never e
+columns_tail r l x h (Some (negsuc c, m)) f e = never e
+columns_tail r l x h (Some (pos c, m)) f e = on (f m (pos c) refl) (cost_tail r c m x h (argument_of m) (λ n z q. argument_leaves m n z q) e)
 
-rows_tail : (l x : List ℕ) (h : Sizes) (o : Option (ℤ × List ℕ)) → ((m : List ℕ) (z : ℤ) → o ≡ some (z, m) → Tail l m) → rowed o ≡ some (h, x) → Tail l x
+rows_tail : (l x : List ℕ) (h : Sizes) (o : Option (ℤ × List ℕ)) → ((m : List ℕ) (z : ℤ) → o ≡ Some (z, m) → Tail l m) → rowed o ≡ Some (h, x) → Tail l x
 unfolding rowed
-rows_tail l x h none f e = never e
-rows_tail l x h (some (negsuc c, m)) f e = never e
-rows_tail l x h (some (pos c, m)) f e = on (f m (pos c) refl) (columns_tail c m x h (argument_of m) (λ n z q. argument_leaves m n z q) e)
+rows_tail l x h None f e = never e
+rows_tail l x h (Some (negsuc c, m)) f e = never e
+rows_tail l x h (Some (pos c, m)) f e = on (f m (pos c) refl) (columns_tail c m x h (argument_of m) (λ n z q. argument_leaves m n z q) e)
 
 pub head_leaves : Leaves head_of
 unfolding head_of
 head_leaves l x h e = go (begins opening l) e
   where
-    go : (t : Bool) → cond t (rowed (argument_of (drop 8 l))) none ≡ some (h, x) → Tail l x
+    go : (t : Bool) → cond t (rowed (argument_of (drop 8 l))) None ≡ Some (h, x) → Tail l x
     go true k = inner 8 l (rows_tail (drop 8 l) x h (argument_of (drop 8 l)) (λ n z q. argument_leaves (drop 8 l) n z q) k)
     go false k = never k
 
 abbrev pub sizes : ℕ → ℕ → Float → Sizes
 sizes r c k = record { rows = r; columns = c; cost = k }
 
-pub head_got : (s : List ℕ) (r c : ℕ) (k : Float) (e : ℕ) → Stated r c k e ≡ head_answer s (head_of s) → Got head_of s 0 (sizes r c k) e
-head_got s r c k e h = go (head_of s) refl h
+pub head_got : (s : List ℕ) (f : Found Head) → Some f ≡ head_answer s (head_of s) → Got head_of s 0 (sizes f.value.rows f.value.columns f.value.cost) f.end
+head_got s f h = go (head_of s) refl h
   where
-    go : (o : Option (Sizes × List ℕ)) → head_of s ≡ o → Stated r c k e ≡ head_answer s o → Got head_of s 0 (sizes r c k) e
-    go none q g = absurd (let z : ◌≡◌ {A = ℕ} 0 1 = cc in omega arith)
-    go (some (x, l)) q g =
-        let a : r ≡ x.rows = cc in
-        let b : c ≡ x.columns = cc in
-        let d : k ≡ x.cost = cc in
-        let u : x ≡ sizes r c k = λ i. record { rows = sym a i; columns = sym b i; cost = sym d i } in
-        got head_of head_leaves s 0 (sizes r c k) l e (q ∙ ap (λ (y : Sizes). some (y, l)) u) (cc)
+    go : (o : Option (Sizes × List ℕ)) → head_of s ≡ o → Some f ≡ head_answer s o → Got head_of s 0 (sizes f.value.rows f.value.columns f.value.cost) f.end
+    go None q g = absurd (let z : ◌≡◌ {A = ℕ} 0 1 = cc in omega arith)
+    go (Some (x, l)) q g =
+        let u : f ≡ record { value = head_in x; end = length s - length l } = cc in
+        let v : x ≡ sizes f.value.rows f.value.columns f.value.cost = ap (λ (k : Found Head). sizes k.value.rows k.value.columns k.value.cost) (sym u) in
+        got head_of head_leaves s 0 (sizes f.value.rows f.value.columns f.value.cost) l f.end (q ∙ ap (λ (y : Sizes). Some (y, l)) v) (ap (λ (k : Found Head). k.end) u)
 
-pub no_head : (s : List ℕ) → NoHead ≡ head_answer s (head_of s) → head_of s ≡ none
+pub no_head : (s : List ℕ) → None ≡ head_answer s (head_of s) → head_of s ≡ None
 no_head s h = go (head_of s) h
   where
-    go : (o : Option (Sizes × List ℕ)) → NoHead ≡ head_answer s o → o ≡ none
-    go none g = refl
-    go (some (x, l)) g = absurd (let z : ◌≡◌ {A = ℕ} 0 1 = cc in omega arith)
+    go : (o : Option (Sizes × List ℕ)) → None ≡ head_answer s o → o ≡ None
+    go None g = refl
+    go (Some (x, l)) g = absurd (let z : ◌≡◌ {A = ℕ} 0 1 = cc in omega arith)
 
 -- ---- what a walk over the table stores
 sets_append : (a b o : List Float) (k : ℕ) → sets (sets o k a) (k + length a) b ≡ sets o k (a ++ b)
@@ -184,38 +181,38 @@ pub record TableGot (s : List ℕ) (at w : ℕ) (o : List Float) (n : ℕ) (same
   pub same_is : same ≡ even w table
   pub stored : o' ≡ sets o 0 (in_one table)
 
-pub no_table : (s : List ℕ) (at w : ℕ) (o : List Float) → NoRows ≡ rows_answer (table_told w o s (table_of (drop at s))) → table_of (drop at s) ≡ none
+pub no_table : (s : List ℕ) (at w : ℕ) (o : List Float) → None ≡ rows_answer (table_told w o s (table_of (drop at s))) → table_of (drop at s) ≡ None
 unfolding told
 no_table s at w o h = go (table_of (drop at s)) h
   where
-    go : (x : Option (List (List Float) × List ℕ)) → NoRows ≡ rows_answer (table_told w o s x) → x ≡ none
-    go none g = refl
-    go (some (t, l)) g = absurd (let z : ◌≡◌ {A = ℕ} 0 1 = cc in omega arith)
+    go : (x : Option (List (List Float) × List ℕ)) → None ≡ rows_answer (table_told w o s x) → x ≡ None
+    go None g = refl
+    go (Some (t, l)) g = absurd (let z : ◌≡◌ {A = ℕ} 0 1 = cc in omega arith)
 
-pub table_got : (s : List ℕ) (at w : ℕ) (o : List Float) (n : ℕ) (same : Bool) (e : ℕ) (o' : List Float) → TableRead (table_told w o s (table_of (drop at s))) (Read n same e) o' → TableGot s at w o n same e o'
+pub table_got : (s : List ℕ) (at w : ℕ) (o : List Float) (f : Found Rows) (o' : List Float) → TableRead (table_told w o s (table_of (drop at s))) (Some f) o' → TableGot s at w o f.value.count f.value.even f.end o'
 unfolding told
-table_got s at w o n same e o' x = go (table_of (drop at s)) refl x.is x.holds
+table_got s at w o f o' x = go (table_of (drop at s)) refl x.is x.holds
   where
-    go : (y : Option (List (List Float) × List ℕ)) → table_of (drop at s) ≡ y → Read n same e ≡ rows_answer (table_told w o s y) → ((a : Filled) (f : ℕ) → table_told w o s y ≡ some (a, f) → o' ≡ a.costs) → TableGot s at w o n same e o'
-    go none q g h = absurd (let z : ◌≡◌ {A = ℕ} 0 1 = cc in omega arith)
-    go (some (t, l)) q g h =
+    go : (y : Option (List (List Float) × List ℕ)) → table_of (drop at s) ≡ y → Some f ≡ rows_answer (table_told w o s y) → ((a : Filled) (e : ℕ) → table_told w o s y ≡ Some (a, e) → o' ≡ a.costs) → TableGot s at w o f.value.count f.value.even f.end o'
+    go None q g h = absurd (let z : ◌≡◌ {A = ℕ} 0 1 = cc in omega arith)
+    go (Some (t, l)) q g h =
         let a : Filled = record { rows = 0; same = true; next = 0; costs = o } in
-        let u : n ≡ (after (fill_row w) a t).rows = cc in
-        let v : same ≡ (after (fill_row w) a t).same = cc in
+        let b : Filled = after (fill_row w) a t in
+        let u : f ≡ record { value = record { count = b.rows; even = b.same }; end = length s - length l } = cc in
         record {
           table = t;
-          stands = got table_of table_leaves s at t l e q (cc);
-          rows_are = u ∙ rows_all w a t ∙ omega arith;
-          same_is = v ∙ same_all w a t;
-          stored = h (after (fill_row w) a t) (length s - length l) refl ∙ filled_all w a t;
+          stands = got table_of table_leaves s at t l f.end q (ap (λ (k : Found Rows). k.end) u);
+          rows_are = ap (λ (k : Found Rows). k.value.count) u ∙ rows_all w a t ∙ omega arith;
+          same_is = ap (λ (k : Found Rows). k.value.even) u ∙ same_all w a t;
+          stored = h b (length s - length l) refl ∙ filled_all w a t;
         }
 
 -- ---- the request
-pub asked_refused : (read : Option Request) (o₀ o : List Float) → read ≡ none → AskedRead read o₀ NoRequest o
-asked_refused read o₀ o q = record { is = rw q; holds = λ x g. never (sym q ∙ g) }
+pub asked_refused : (read : Option Request) → read ≡ None → ReadingAnswer read None
+asked_refused read q = record { is = rw q; costs_are = tt }
 
 module _ (s : List ℕ) where
-  pub ask_no_head : head_of s ≡ none → request_of s ≡ none
+  pub ask_no_head : head_of s ≡ None → request_of s ≡ None
   unfolding request_of tabled
   ask_no_head h = rw h
 
@@ -224,38 +221,22 @@ module _ (s : List ℕ) where
     unfolding request_of tabled
     ask_is = rw g.left
 
-    pub ask_no_table : table_of (drop at s) ≡ none → request_of s ≡ none
+    pub ask_no_table : table_of (drop at s) ≡ None → request_of s ≡ None
     unfolding closed
     ask_no_table h = rw (ask_is, h)
 
-    module _ (o : List Float) (n : ℕ) (same : Bool) (e : ℕ) (o' : List Float) (t : TableGot s at c o n same e o') where
-      pub ask_open : closing (drop e s) ≡ false → request_of s ≡ none
+    module _ (n : ℕ) (same : Bool) (e : ℕ) (o : List Float) (t : TableGot s at c no_costs n same e o) where
+      pub ask_open : closing (drop e s) ≡ false → request_of s ≡ None
       unfolding closed
       ask_open h = rw (ask_is, t.stands.left, h)
 
-      ask_all : closing (drop e s) ≡ true → request_of s ≡ some (record { sizes = sizes r c k; table = t.table })
+      ask_all : closing (drop e s) ≡ true → request_of s ≡ Some (record { sizes = sizes r c k; table = t.table })
       unfolding closed
       ask_all h = rw (ask_is, t.stands.left, h)
 
-      table_in : Option Request → List (List Float)
-      table_in none = []
-      table_in (some q) = q.table
-
-      pub asked : closing (drop e s) ≡ true → AskedRead (request_of s) o (Table r c k (eqb n r && same)) o'
-      unfolding table_in
+      pub asked : closing (drop e s) ≡ true → ReadingAnswer (request_of s) (Some (record { rows = r; columns = c; cost = k; shaped = eqb n r && same; costs = o }))
       asked h =
           record {
             is = rw (ask_all h, t.rows_are, t.same_is);
-            holds = λ q d.
-                let u : t.table ≡ q.table = ap table_in (sym (ask_all h) ∙ d) in
-                rw (← u) (t.stored ∙ sets_over (in_one t.table) o);
+            costs_are = rw (ask_all h) (t.stored ∙ sets_over (in_one t.table) no_costs);
           }
-
--- ---- the reading
-pub nothing_read : (read : Option Request) (a : Asked) → a ≡ NoRequest → reply_of_asked a ≡ asked_reply read → ReadingAnswer read (record { asked = a; costs = no_costs })
-nothing_read none a e h = record { is = h; costs_are = refl }
-nothing_read (some q) a e h = let w : refused 13 ≡ asked_reply (some q) = sym (ap reply_of_asked e) ∙ h in absurd (let z : ◌≡◌ {A = ℕ} 0 1 = cc in omega arith)
-
-pub all_read : (read : Option Request) (o : List Float) (a : Asked) (r c : ℕ) (k : Float) (b : Bool) → a ≡ Table r c k b → AskedRead read no_costs a o → ReadingAnswer read (record { asked = a; costs = o })
-all_read none o a r c k b e w = let h : reply_of_asked (Table r c k b) ≡ refused 13 = sym (ap reply_of_asked e) ∙ w.is in absurd (let z : ◌≡◌ {A = ℕ} 0 1 = cc in omega arith)
-all_read (some q) o a r c k b e w = record { is = w.is; costs_are = w.holds q refl }

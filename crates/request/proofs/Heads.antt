@@ -1,39 +1,36 @@
 -- The head of a line: what a number with its blank leaves, and what each stage makes of it.
-use mathlib.Core.Path.{◌≡◌, refl, ap, sym, ◌∙◌}
+use Rattle.std.specs.Prelude.{Option}
+use mathlib.Core.Path.{◌≡◌, refl, ap, ◌∙◌}
 use mathlib.Core.Bool.{Bool, true, false, cond}
-use mathlib.Core.Option.{Option, none, some}
 use mathlib.Core.List.{List, [], ◌∷◌}
 use Prim.Native.Nat.{ℕ}
-use native.Mathlib.Omega.{arith}
 use lib.Dec.{eqb}
 use lib.IntN.{ℤ, pos, negsuc}
 use lib.ListN.{drop}
-use lib.Ieee.{binary64, of_int, neg}
+use lib.Ieee.{binary64, of_int}
+use Rattle.std.proofs.Common.{Some, None}
 use Rattle.forms.specs.Shape.{past_word}
 use Rattle.forms.proofs.Shapes.{never, Tail, one, more, on, past_tail}
 use Rattle.forms.specs.Decimal.{decimal_of}
-use Rattle.request.specs.Request.{word_of, leaving, blank, argument_of, begins, opening, numbered_of, head_answer, costed, columned, rowed, head_of}
-use Rattle.request.specs.declared.words.Numbered.TheVariants.{Plus, Minus, NoNumber}
-use Rattle.request.specs.declared.head.Head.TheVariants.{Stated, NoHead}
-use Rattle.request.proofs.Lists.{rest_of, Leaves, Got, got}
-use Rattle.request.proofs.Numbers.{neg_whole}
+use Rattle.request.specs.Request.{word_of, leaving, blank, argument_of, counted, count_of, begins, opening, found_of, head_answer, Sizes, costed, columned, rowed, head_of}
+use Rattle.request.proofs.Lists.{rest_of, place, Leaves, Got, found_none}
 
 -- ---- a number and its blank leave a tail
 later : {l m : List ℕ} → Tail (0 ∷ l) m → (c : ℕ) (r : List ℕ) → m ≡ c ∷ r → Tail l r
 later one c r e = rw e one
 later (more t) c r e = on (rw e at t) one
 
-at_blank : {X : Type 0} (l r m : List ℕ) (c : ℕ) (x y : X) (t : Bool) → past_word l ≡ c ∷ m → cond {A = Option (X × List ℕ)} t (some (y, m)) none ≡ some (x, r) → Tail l r
+at_blank : {X : Type 0} (l r m : List ℕ) (c : ℕ) (x y : X) (t : Bool) → past_word l ≡ c ∷ m → cond {A = Option (X × List ℕ)} t (Some (y, m)) None ≡ Some (x, r) → Tail l r
 unfolding rest_of
 at_blank l r m c x y true q k = let u : m ≡ r = ap rest_of k in rw u at (later (past_tail 0 l) c m q)
 at_blank l r m c x y false q k = never k
 
-blank_leaves : {X : Type 0} (l r : List ℕ) (x : X) (o : Option X) → blank (leaving (past_word l) o) ≡ some (x, r) → Tail l r
+blank_leaves : {X : Type 0} (l r : List ℕ) (x : X) (o : Option X) → blank (leaving (past_word l) o) ≡ Some (x, r) → Tail l r
 unfolding blank leaving
-blank_leaves l r x none h = never h
-blank_leaves {X} l r x (some y) h = go (past_word l) refl h
+blank_leaves l r x None h = never h
+blank_leaves {X} l r x (Some y) h = go (past_word l) refl h
   where
-    go : (m : List ℕ) → past_word l ≡ m → blank (some (y, m)) ≡ some (x, r) → Tail l r
+    go : (m : List ℕ) → past_word l ≡ m → blank (Some (y, m)) ≡ Some (x, r) → Tail l r
     go [] q g = never g
     go (c ∷ m) q g = at_blank l r m c x y (eqb c 32) q g
 
@@ -41,78 +38,71 @@ pub argument_leaves : Leaves argument_of
 unfolding argument_of
 argument_leaves l r z h = blank_leaves l r z (decimal_of (word_of l)) h
 
--- ---- what its answer says
-pub no_number : (s : List ℕ) (o : Option (ℤ × List ℕ)) → NoNumber ≡ numbered_of s o → o ≡ none
-no_number s none h = refl
-no_number s (some (pos n, l)) h = absurd (let z : ◌≡◌ {A = ℕ} 0 1 = cc in omega arith)
-no_number s (some (negsuc n, l)) h = absurd (let z : ◌≡◌ {A = ℕ} 0 1 = cc in omega arith)
+-- ---- and so does a number that is not below zero
+counted_leaves : (l r : List ℕ) (n : ℕ) (o : Option (ℤ × List ℕ)) → counted o ≡ Some (n, r) → ((z : ℤ) → o ≡ Some (z, r) → Tail l r) → Tail l r
+unfolding counted rest_of
+counted_leaves l r n None h f = never h
+counted_leaves l r n (Some (pos m, k)) h f = let u : k ≡ r = ap rest_of h in f (pos m) (ap (λ (x : List ℕ). Some (pos m, x)) u)
+counted_leaves l r n (Some (negsuc m, k)) h f = never h
 
-pub plus_got : (s : List ℕ) (at n e : ℕ) → Plus n e ≡ numbered_of s (argument_of (drop at s)) → Got argument_of s at (pos n) e
-plus_got s at n e h = go (argument_of (drop at s)) refl h
-  where
-    go : (o : Option (ℤ × List ℕ)) → argument_of (drop at s) ≡ o → Plus n e ≡ numbered_of s o → Got argument_of s at (pos n) e
-    go none q g = absurd (let z : ◌≡◌ {A = ℕ} 0 1 = cc in omega arith)
-    go (some (negsuc m, l)) q g = absurd (let z : ◌≡◌ {A = ℕ} 0 1 = cc in omega arith)
-    go (some (pos m, l)) q g = let u : n ≡ m = cc in got argument_of argument_leaves s at (pos n) l e (q ∙ ap (λ (k : ℕ). some (pos k, l)) (sym u)) (cc)
+pub count_leaves : Leaves count_of
+unfolding count_of
+count_leaves l r n h = counted_leaves l r n (argument_of l) h (λ z q. argument_leaves l r z q)
 
--- ---- the row cost
-module _ (s : List ℕ) (r c : ℕ) where
-  pub cost_none : (o : Option (ℤ × List ℕ)) → NoNumber ≡ numbered_of s o → NoHead ≡ head_answer s (costed r c o)
-  unfolding costed
-  cost_none o h = rw (no_number s o h)
+-- ---- the stages by what is not below zero
+after_rows : Option (ℕ × List ℕ) → Option (Sizes × List ℕ)
+after_rows None = None
+after_rows (Some (r, l)) = columned r (argument_of l)
 
-  pub cost_plus : (o : Option (ℤ × List ℕ)) (n e : ℕ) → Plus n e ≡ numbered_of s o → Stated r c (of_int binary64 (pos n)) e ≡ head_answer s (costed r c o)
-  unfolding costed
-  cost_plus none n e h = absurd (let z : ◌≡◌ {A = ℕ} 0 1 = cc in omega arith)
-  cost_plus (some (negsuc m, l)) n e h = absurd (let z : ◌≡◌ {A = ℕ} 0 1 = cc in omega arith)
-  cost_plus (some (pos m, l)) n e h = cc
+after_columns : ℕ → Option (ℕ × List ℕ) → Option (Sizes × List ℕ)
+after_columns r None = None
+after_columns r (Some (c, l)) = costed r c (argument_of l)
 
-  pub cost_minus : (o : Option (ℤ × List ℕ)) (n e : ℕ) → Minus n e ≡ numbered_of s o → Stated r c (neg (of_int binary64 (pos n))) e ≡ head_answer s (costed r c o)
-  unfolding costed
-  cost_minus none n e h = absurd (let z : ◌≡◌ {A = ℕ} 0 1 = cc in omega arith)
-  cost_minus (some (pos m, l)) n e h = absurd (let z : ◌≡◌ {A = ℕ} 0 1 = cc in omega arith)
-  cost_minus (some (negsuc m, l)) n e h = let g = neg_whole m in cc
+rowed_is : (o : Option (ℤ × List ℕ)) → rowed o ≡ after_rows (counted o)
+unfolding rowed counted after_rows
+rowed_is None = refl
+rowed_is (Some (pos n, l)) = refl
+rowed_is (Some (negsuc n, l)) = refl
 
--- ---- the columns
-module _ (s : List ℕ) (r : ℕ) where
-  pub columns_none : (o : Option (ℤ × List ℕ)) → NoNumber ≡ numbered_of s o → NoHead ≡ head_answer s (columned r o)
-  unfolding columned
-  columns_none o h = rw (no_number s o h)
+columned_is : (r : ℕ) (o : Option (ℤ × List ℕ)) → columned r o ≡ after_columns r (counted o)
+unfolding columned counted after_columns
+columned_is r None = refl
+columned_is r (Some (pos n, l)) = refl
+columned_is r (Some (negsuc n, l)) = refl
 
-  pub columns_minus : (o : Option (ℤ × List ℕ)) (n e : ℕ) → Minus n e ≡ numbered_of s o → NoHead ≡ head_answer s (columned r o)
-  unfolding columned
-  columns_minus none n e h = refl
-  columns_minus (some (pos m, l)) n e h = absurd (let z : ◌≡◌ {A = ℕ} 0 1 = cc in omega arith)
-  columns_minus (some (negsuc m, l)) n e h = refl
-
-  pub columns_plus : (at n e : ℕ) → Got argument_of s at (pos n) e → columned r (argument_of (drop at s)) ≡ costed r n (argument_of (drop e s))
-  unfolding columned
-  columns_plus at n e g = rw g.left
-
--- ---- the rows
 module _ (s : List ℕ) where
-  pub head_other : begins opening s ≡ false → NoHead ≡ head_answer s (head_of s)
+  pub head_other : begins opening s ≡ false → None ≡ head_answer s (head_of s)
   unfolding head_of
   head_other h = rw h
 
   module _ (h : begins opening s ≡ true) where
-    head_is : head_of s ≡ rowed (argument_of (drop 8 s))
-    unfolding head_of
-    head_is = rw h
+    head_is : head_of s ≡ after_rows (count_of (drop 8 s))
+    unfolding head_of count_of
+    head_is = rw h (rowed_is (argument_of (drop 8 s)))
 
-    pub head_none : NoNumber ≡ numbered_of s (argument_of (drop 8 s)) → NoHead ≡ head_answer s (head_of s)
-    unfolding rowed
-    head_none g = rw (head_is, no_number s (argument_of (drop 8 s)) g)
+    pub head_no_rows : None ≡ found_of s (count_of (drop 8 s)) → None ≡ head_answer s (head_of s)
+    unfolding after_rows
+    head_no_rows g = rw (head_is, found_none s (count_of (drop 8 s)) g)
 
-    pub head_minus : (n e : ℕ) → Minus n e ≡ numbered_of s (argument_of (drop 8 s)) → NoHead ≡ head_answer s (head_of s)
-    unfolding rowed
-    head_minus n e g = rw head_is (go (argument_of (drop 8 s)) g)
-      where
-        go : (o : Option (ℤ × List ℕ)) → Minus n e ≡ numbered_of s o → NoHead ≡ head_answer s (rowed o)
-        go none k = refl
-        go (some (pos m, l)) k = absurd (let z : ◌≡◌ {A = ℕ} 0 1 = cc in omega arith)
-        go (some (negsuc m, l)) k = refl
+    module _ (r e : ℕ) (g : Got count_of s 8 r e) where
+      columns_is : head_of s ≡ after_columns r (count_of (drop e s))
+      unfolding after_rows count_of
+      columns_is = head_is ∙ ap after_rows g.left ∙ columned_is r (argument_of (drop e s))
 
-    pub head_plus : (n e : ℕ) → Got argument_of s 8 (pos n) e → head_of s ≡ columned n (argument_of (drop e s))
-    unfolding rowed
-    head_plus n e g = rw (head_is, g.left)
+      pub head_no_columns : None ≡ found_of s (count_of (drop e s)) → None ≡ head_answer s (head_of s)
+      unfolding after_columns
+      head_no_columns k = rw (columns_is, found_none s (count_of (drop e s)) k)
+
+      module _ (c f : ℕ) (k : Got count_of s e c f) where
+        cost_is : head_of s ≡ costed r c (argument_of (drop f s))
+        unfolding after_columns
+        cost_is = columns_is ∙ ap (after_columns r) k.left
+
+        pub head_no_cost : None ≡ found_of s (argument_of (drop f s)) → None ≡ head_answer s (head_of s)
+        unfolding costed
+        head_no_cost q = rw (cost_is, found_none s (argument_of (drop f s)) q)
+
+        pub head_stated : (z : ℤ) (i : ℕ) → Got argument_of s f z i
+            → Some (record { value = record { rows = r; columns = c; cost = of_int binary64 z }; end = i }) ≡ head_answer s (head_of s)
+        unfolding costed
+        head_stated z i q = rw (cost_is, q.left, place s i q.within)

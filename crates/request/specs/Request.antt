@@ -1,23 +1,15 @@
 -- What a line asks. 01, Line of the program `assign`: "Input `(assign 2 2 10 ((1 2) (- 4)))`: rows and columns (0 or more), row cost, table; `-` forbids and
 -- stands only in the table; decimal −1,000,000 to 1,000,000, no leading zero, no `-0`."
-use Rattle.std.specs.Prelude.{◌≡◌, Bool, true, false, cond, ◌&&◌, List, [], ◌∷◌, ℕ, suc, ◌+◌, ◌-◌, ◌≤◌, eqb, ℤ, pos, negsuc, length, take, drop, set, Float}
-use Rattle.std.proofs.Math.Option.{Option, none, some}
+use Rattle.std.specs.Prelude.{◌≡◌, Bool, true, false, cond, ◌&&◌, List, [], ◌∷◌, ℕ, ◌+◌, ◌-◌, ◌≤◌, eqb, ℤ, pos, negsuc, length, take, drop, set, Float, Option as Answer, Some, None, Option}
 use Rattle.std.specs.Float.{binary64, inf}
 use Rattle.std.specs.Float.Ieee.{of_int}
 use Rattle.forms.specs.Bytes.{bytes_of}
 use Rattle.forms.specs.Shape.{past_word}
 use Rattle.forms.specs.Decimal.{decimal_of}
 use Rattle.request.specs.Listed.{Reader, bracketed, after, told}
-use Rattle.request.specs.declared.words.Numbered.{Numbered}
-use Rattle.request.specs.declared.words.Numbered.TheVariants.{Plus, Minus, NoNumber}
-use Rattle.request.specs.declared.words.Item.{Item}
-use Rattle.request.specs.declared.words.Item.TheVariants.{Cost, NoItem}
+use Rattle.request.specs.declared.words.Found.{Found}
 use Rattle.request.specs.declared.head.Head.{Head}
-use Rattle.request.specs.declared.head.Head.TheVariants.{Stated, NoHead}
-use Rattle.request.specs.declared.table.Row.{Row}
-use Rattle.request.specs.declared.table.Row.TheVariants.{Items, NoRow}
 use Rattle.request.specs.declared.table.Rows.{Rows}
-use Rattle.request.specs.declared.table.Rows.TheVariants.{Read, NoRows}
 
 -- ---- words
 -- the word at the head
@@ -32,17 +24,17 @@ dash (b ∷ c ∷ l) = false
 
 -- a value with what is left behind it
 unfoldable pub leaving : {X : Type 0} → List ℕ → Option X → Option (X × List ℕ)
-leaving r none = none
-leaving r (some x) = some (x, r)
+leaving r None = None
+leaving r (Some x) = Some (x, r)
 
 -- a whole number as a cost: binary64 holds it exactly
 unfoldable pub cost_of : Option ℤ → Option Float
-cost_of none = none
-cost_of (some z) = some (of_int binary64 z)
+cost_of None = None
+cost_of (Some z) = Some (of_int binary64 z)
 
 -- "`-` forbids": a cost that is not finite
 unfoldable pub cost_in : List ℕ → Option Float
-cost_in w = cond (dash w) (some (inf false)) (cost_of (decimal_of w))
+cost_in w = cond (dash w) (Some (inf false)) (cost_of (decimal_of w))
 
 -- an entry of the table
 unfoldable pub entry_of : Reader Float
@@ -50,13 +42,22 @@ entry_of l = leaving (past_word l) (cost_in (word_of l))
 
 -- a blank behind what was read
 unfoldable pub blank : {X : Type 0} → Option (X × List ℕ) → Option (X × List ℕ)
-blank none = none
-blank (some (x, [])) = none
-blank (some (x, c ∷ l)) = cond (eqb c 32) (some (x, l)) none
+blank None = None
+blank (Some (x, [])) = None
+blank (Some (x, c ∷ l)) = cond (eqb c 32) (Some (x, l)) None
 
 -- a number and a blank
 unfoldable pub argument_of : Reader ℤ
 argument_of l = blank (leaving (past_word l) (decimal_of (word_of l)))
+
+-- the same of a number that is not below zero
+unfoldable pub counted : Option (ℤ × List ℕ) → Option (ℕ × List ℕ)
+counted None = None
+counted (Some (negsuc n, l)) = None
+counted (Some (pos n, l)) = Some (n, l)
+
+unfoldable pub count_of : Reader ℕ
+count_of l = counted (argument_of l)
 
 -- ---- the head: `(assign`, rows, columns, row cost, a blank after each
 -- the bytes t, at the head
@@ -74,21 +75,21 @@ pub record Sizes : Type 0 where
   pub cost : Float
 
 unfoldable pub costed : ℕ → ℕ → Option (ℤ × List ℕ) → Option (Sizes × List ℕ)
-costed r c none = none
-costed r c (some (k, l)) = some (record { rows = r; columns = c; cost = of_int binary64 k }, l)
+costed r c None = None
+costed r c (Some (k, l)) = Some (record { rows = r; columns = c; cost = of_int binary64 k }, l)
 
 unfoldable pub columned : ℕ → Option (ℤ × List ℕ) → Option (Sizes × List ℕ)
-columned r none = none
-columned r (some (negsuc c, l)) = none
-columned r (some (pos c, l)) = costed r c (argument_of l)
+columned r None = None
+columned r (Some (negsuc c, l)) = None
+columned r (Some (pos c, l)) = costed r c (argument_of l)
 
 unfoldable pub rowed : Option (ℤ × List ℕ) → Option (Sizes × List ℕ)
-rowed none = none
-rowed (some (negsuc r, l)) = none
-rowed (some (pos r, l)) = columned r (argument_of l)
+rowed None = None
+rowed (Some (negsuc r, l)) = None
+rowed (Some (pos r, l)) = columned r (argument_of l)
 
 unfoldable pub head_of : Reader Sizes
-head_of l = cond (begins opening l) (rowed (argument_of (drop 8 l))) none
+head_of l = cond (begins opening l) (rowed (argument_of (drop 8 l))) None
 
 -- ---- the whole request
 pub record Request : Type 0 where
@@ -103,8 +104,8 @@ closing (a ∷ b ∷ []) = eqb a 41 && eqb b 10
 closing (a ∷ b ∷ c ∷ l) = false
 
 unfoldable pub closed : Sizes → Option (List (List Float) × List ℕ) → Option Request
-closed h none = none
-closed h (some (t, l)) = cond (closing l) (some (record { sizes = h; table = t })) none
+closed h None = None
+closed h (Some (t, l)) = cond (closing l) (Some (record { sizes = h; table = t })) None
 
 -- rows of entries
 unfoldable pub row_of : Reader (List Float)
@@ -114,8 +115,8 @@ unfoldable pub table_of : Reader (List (List Float))
 table_of = bracketed row_of
 
 unfoldable pub tabled : Option (Sizes × List ℕ) → Option Request
-tabled none = none
-tabled (some (h, l)) = closed h (table_of l)
+tabled None = None
+tabled (Some (h, l)) = closed h (table_of l)
 
 unfoldable pub request_of : List ℕ → Option Request
 request_of l = tabled (head_of l)
@@ -129,18 +130,20 @@ abbrev pub shaped : Request → Bool
 shaped q = eqb (length q.table) q.sizes.rows && even q.sizes.columns q.table
 
 -- ---- as answers, with the place in s of what is left
-abbrev pub numbered_of : List ℕ → Option (ℤ × List ℕ) → Numbered
-numbered_of s none = NoNumber
-numbered_of s (some (pos n, l)) = Plus n (length s - length l)
-numbered_of s (some (negsuc n, l)) = Minus (suc n) (length s - length l)
+abbrev pub found_of : {X : Type 0} → List ℕ → Option (X × List ℕ) → Answer (Found X)
+found_of s None = None
+found_of s (Some (x, l)) = Some (record { value = x; end = length s - length l })
 
-abbrev pub item_of : List ℕ → Option (Float × List ℕ) → Item
-item_of s none = NoItem
-item_of s (some (x, l)) = Cost x (length s - length l)
+abbrev pub head_in : Sizes → Head
+head_in h = record { rows = h.rows; columns = h.columns; cost = h.cost }
 
-abbrev pub head_answer : List ℕ → Option (Sizes × List ℕ) → Head
-head_answer s none = NoHead
-head_answer s (some (h, l)) = Stated h.rows h.columns h.cost (length s - length l)
+abbrev pub head_answer : List ℕ → Option (Sizes × List ℕ) → Answer (Found Head)
+head_answer s None = None
+head_answer s (Some (h, l)) = Some (record { value = head_in h; end = length s - length l })
+
+abbrev pub cost_answer : Option Float → Answer Float
+cost_answer None = None
+cost_answer (Some x) = Some x
 
 -- ---- costs stored while they are read: a place past the array's end takes none
 pub record Stored : Type 0 where
@@ -151,16 +154,16 @@ pub record Stored : Type 0 where
 abbrev pub store_one : ℕ → Stored → Float → Stored
 store_one k a x = record { count = a.count + 1; costs = set a.costs (k + a.count) x }
 
-abbrev pub row_answer : Option (Stored × ℕ) → Row
-row_answer none = NoRow
-row_answer (some (a, e)) = Items a.count e
+abbrev pub row_answer : Option (Stored × ℕ) → Answer (Found ℕ)
+row_answer None = None
+row_answer (Some (a, e)) = Some (record { value = a.count; end = e })
 
 -- what a row's reader answers and leaves; an entry has at least one byte
-pub record RowRead (read : Option (Stored × ℕ)) (at : ℕ) (r : Row) (o : List Float) : Type 0 where
+pub record RowRead (read : Option (Stored × ℕ)) (at : ℕ) (r : Answer (Found ℕ)) (o : List Float) : Type 0 where
   pub is : r ≡ row_answer read
   pub long : length o ≡ 4096
-  pub short : (n e : ℕ) → r ≡ Items n e → at + n ≤ e
-  pub holds : (a : Stored) (e : ℕ) → read ≡ some (a, e) → o ≡ a.costs
+  pub short : (f : Found ℕ) → r ≡ Some f → at + f.value ≤ f.end
+  pub holds : (a : Stored) (e : ℕ) → read ≡ Some (a, e) → o ≡ a.costs
 
 abbrev pub row_told : ℕ → List Float → List ℕ → Option (List Float × List ℕ) → Option (Stored × ℕ)
 row_told k o = told (store_one k) (record { count = 0; costs = o })
@@ -178,14 +181,14 @@ fill_from w a p = record { rows = a.rows + 1; same = a.same && eqb p.count w; ne
 abbrev pub fill_row : ℕ → Filled → List Float → Filled
 fill_row w a row = fill_from w a (after (store_one a.next) (record { count = 0; costs = a.costs }) row)
 
-abbrev pub rows_answer : Option (Filled × ℕ) → Rows
-rows_answer none = NoRows
-rows_answer (some (a, e)) = Read a.rows a.same e
+abbrev pub rows_answer : Option (Filled × ℕ) → Answer (Found Rows)
+rows_answer None = None
+rows_answer (Some (a, e)) = Some (record { value = record { count = a.rows; even = a.same }; end = e })
 
-pub record TableRead (read : Option (Filled × ℕ)) (r : Rows) (o : List Float) : Type 0 where
+pub record TableRead (read : Option (Filled × ℕ)) (r : Answer (Found Rows)) (o : List Float) : Type 0 where
   pub is : r ≡ rows_answer read
   pub long : length o ≡ 4096
-  pub holds : (a : Filled) (e : ℕ) → read ≡ some (a, e) → o ≡ a.costs
+  pub holds : (a : Filled) (e : ℕ) → read ≡ Some (a, e) → o ≡ a.costs
 
 abbrev pub table_told : ℕ → List Float → List ℕ → Option (List (List Float) × List ℕ) → Option (Filled × ℕ)
 table_told w o = told (fill_row w) (record { rows = 0; same = true; next = 0; costs = o })

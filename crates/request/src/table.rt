@@ -4,20 +4,13 @@ ghost use Rattle.std.specs.Prelude.{◌≡◌, true, ◌≤◌, length, drop, se
 ghost use Rattle.request.specs.Listed.{listed};
 ghost use Rattle.request.specs.Request.{entry_of, row_of, table_of, row_told, RowRead, table_told, TableRead};
 
-use crate::words::Item;
+use crate::words::Found;
 
-// How many entries, with the place behind the row.
+// How many rows, and whether each has the stated columns.
 #[derive(Clone, Copy)]
-pub enum Row {
-    Items(usize, usize),
-    NoRow,
-}
-
-// How many rows, whether each has the stated columns, and the place behind the table.
-#[derive(Clone, Copy)]
-pub enum Rows {
-    Read(usize, bool, usize),
-    NoRows,
+pub struct Rows {
+    pub count: usize,
+    pub even: bool,
 }
 
 // Stores a cost, where the array has its place.
@@ -30,105 +23,91 @@ fn store(costs: &mut [f64; 4096], k: usize, v: f64)
     }
 }
 
-// One entry or more, and the closing bracket; their costs are stored from `k` on.
-fn entries(s: &[u8], from: usize, costs: &mut [f64; 4096], k: usize) -> Row
+// One entry or more, and the closing bracket: how many. Their costs are stored from `k` on.
+fn entries(s: &[u8], from: usize, costs: &mut [f64; 4096], k: usize) -> Option<Found<usize>>
     requires { (from ≤ length s.now) × (k ≤ from) × (length costs.old ≡ 4096) }
     ensures { RowRead (row_told k costs.old s.now (listed entry_of (drop from s.now))) from result costs.new }
 {
     let mut i = from;
-    let mut n: usize = 0;
+    let mut n = 0;
     loop {
-        match crate::words::entry(s, i) {
-            Item::NoItem => return Row::NoRow,
-            Item::Cost(v, e) => {
-                if s.len() <= e {
-                    return Row::NoRow;
-                }
-                store(costs, k + n, v);
-                n += 1;
-                let c = s[e];
-                if c == 41 {
-                    return Row::Items(n, e + 1);
-                }
-                if c != 32 {
-                    return Row::NoRow;
-                }
-                i = e + 1;
-            }
+        let cost = crate::words::entry(s, i)?;
+        let next = *s.get(cost.end)?;
+        store(costs, k + n, cost.value);
+        n += 1;
+        i = cost.end + 1;
+        match next {
+            b')' => return Some(Found { value: n, end: i }),
+            b' ' => continue,
+            _ => return None,
         }
     }
 }
 
-// A row: entries in brackets, or none.
-fn read_row(s: &[u8], at: usize, costs: &mut [f64; 4096], k: usize) -> Row
+// A row: entries in brackets, or none; how many.
+fn read_row(s: &[u8], at: usize, costs: &mut [f64; 4096], k: usize) -> Option<Found<usize>>
     requires { (k ≤ at) × (length costs.old ≡ 4096) }
     ensures { RowRead (row_told k costs.old s.now (row_of (drop at s.now))) at result costs.new }
 {
-    if s.len() <= at {
-        return Row::NoRow;
+    if *s.get(at)? != b'(' {
+        return None;
     }
-    if s[at] != 40 {
-        return Row::NoRow;
+    if *s.get(at + 1)? == b')' {
+        return Some(Found {
+            value: 0,
+            end: at + 2,
+        });
     }
-    let i = at + 1;
-    if s.len() <= i {
-        return Row::NoRow;
-    }
-    if s[i] == 41 {
-        return Row::Items(0, i + 1);
-    }
-    entries(s, i, costs, k)
+    entries(s, at + 1, costs, k)
 }
 
-// One row or more, and the closing bracket.
-fn read_rows(s: &[u8], from: usize, columns: usize, costs: &mut [f64; 4096]) -> Rows
+// One row or more, and the closing bracket. A loop of its own, and not one with `entries` over a closure: a row counts its entries, and a table its rows, the
+// places of their costs, and whether they are even.
+fn read_rows(s: &[u8], from: usize, columns: usize, costs: &mut [f64; 4096]) -> Option<Found<Rows>>
     requires { (from ≤ length s.now) × (length costs.old ≡ 4096) }
     ensures { TableRead (table_told columns costs.old s.now (listed row_of (drop from s.now))) result costs.new }
 {
     let mut i = from;
-    let mut n: usize = 0;
-    let mut k: usize = 0;
-    let mut same = true;
+    let mut k = 0;
+    let mut count = 0;
+    let mut even = true;
     loop {
-        match read_row(s, i, costs, k) {
-            Row::NoRow => return Rows::NoRows,
-            Row::Items(m, e) => {
-                if s.len() <= e {
-                    return Rows::NoRows;
-                }
-                n += 1;
-                k += m;
-                same = same & (m == columns);
-                let c = s[e];
-                if c == 41 {
-                    return Rows::Read(n, same, e + 1);
-                }
-                if c != 32 {
-                    return Rows::NoRows;
-                }
-                i = e + 1;
+        let row = read_row(s, i, costs, k)?;
+        let next = *s.get(row.end)?;
+        k += row.value;
+        count += 1;
+        even = even & (row.value == columns);
+        i = row.end + 1;
+        match next {
+            b')' => {
+                let value = Rows { count, even };
+                return Some(Found { value, end: i });
             }
+            b' ' => continue,
+            _ => return None,
         }
     }
 }
 
 // The table: rows in brackets, or none; the costs are stored row after row.
-pub fn read_table(s: &[u8], at: usize, columns: usize, costs: &mut [f64; 4096]) -> Rows
+pub fn read_table(
+    s: &[u8],
+    at: usize,
+    columns: usize,
+    costs: &mut [f64; 4096],
+) -> Option<Found<Rows>>
     requires { length costs.old ≡ 4096 }
     ensures { TableRead (table_told columns costs.old s.now (table_of (drop at s.now))) result costs.new }
 {
-    if s.len() <= at {
-        return Rows::NoRows;
+    if *s.get(at)? != b'(' {
+        return None;
     }
-    if s[at] != 40 {
-        return Rows::NoRows;
+    if *s.get(at + 1)? == b')' {
+        let value = Rows {
+            count: 0,
+            even: true,
+        };
+        return Some(Found { value, end: at + 2 });
     }
-    let i = at + 1;
-    if s.len() <= i {
-        return Rows::NoRows;
-    }
-    if s[i] == 41 {
-        return Rows::Read(0, true, i + 1);
-    }
-    read_rows(s, i, columns, costs)
+    read_rows(s, at + 1, columns, costs)
 }

@@ -1,19 +1,20 @@
 -- I − K H for an H that selects items, and a finite K: outside the columns that H selects it is I, and a zero of K H has no say. Assumes nothing.
 use mathlib.Core.Path.{◌≡◌, refl, sym, ap, ap₂, ◌∙◌, subst}
-use mathlib.Core.Logic.{◌⊎◌, inl, inr}
-use mathlib.Core.Bool.{Bool, true, false, ◌&&◌, cond}
-use Prim.Native.Nat.{ℕ, suc, ◌+◌, ◌-◌, ◌≤◌, ◌<◌}
+use mathlib.Core.Logic.{inl, inr}
+use mathlib.Core.Bool.{Bool, true, false, cond}
+use Prim.Native.Nat.{ℕ, zero, suc, ◌+◌, ◌-◌, ◌≤◌, ◌<◌}
 use native.Mathlib.Omega.{arith}
-use native.Mathlib.Nat.{le_refl}
-use lib.Dec.{T, leb, ltb, eqb}
-use lib.Ieee.{Float, nan, binary64, add, sub, neg, mul, of_bits}
-use borrow.Author.Tests.{eq-eqb, ne_eqb, eqb-true, eqb-false, ltb-true, ltb-false}
+use lib.Dec.{T, ltb, eqb}
+use lib.Ieee.{Float, nan, binary64, sub, mul, fits, of_bits}
+use lib.Ieee.Scale.{finite}
+use borrow.Author.Tests.{clash, eq-eqb, ne_eqb, eqb-true, eqb-false, ltb-true, ltb-false}
 use Rattle.number.proofs.Held.{zero_of, mul_turned}
-use Rattle.matrix.specs.Matrix.{Vector, item, entry, tabulate, nought, one, sum_to, row_times, minus_vector}
+use Rattle.matrix.specs.Matrix.{Vector, item, entry, tabulate, nought, one, sum_to, sum_of, row_times, minus_vector}
 use Rattle.models.specs.Models.{selection}
 use Rattle.selected.specs.Units.{unit_at, less_from, rest_row}
 use Rattle.selected.proofs.Picks.{Held, IsZero, Near, all_zeros}
 use Rattle.selected.proofs.Selected.{nought_times, selected_near, turned}
+use Rattle.matrix.proofs.Terms.{terms_finite}
 use Rattle.matrix.proofs.Tabulated.{get_d_tabulate, tabulate_same, sum_same}
 use Rattle.selected.proofs.Reading.{selection_entry}
 
@@ -81,3 +82,22 @@ module _ (c n first : ℕ) (x : Vector) (held : (m : ℕ) → m ≤ c → Held (
       (get_d_tabulate nan n j (λ j. sum_to c (λ m. mul binary64 (item x m) (entry h m j))) hj
       ∙ sum_same c (λ m. mul binary64 (item x m) (entry h m j)) (term j) (λ m b. ap (mul binary64 (item x m)) (selection_entry (suc c) n first m j (omega (arith, b)) hj)))
       ∙ rest_entry i j)
+
+-- no item selected: nothing but +0 is taken away
+none_read : (n first : ℕ) (x : Vector) (i : ℕ) → less_from n i (row_times 0 n x (selection 0 n first)) ≡ rest_row n 0 first x i
+unfolding less_from minus_vector row_times rest_row of_bits
+none_read n first x i =
+    tabulate_same n (λ j. sub binary64 (item (tabulate n (λ j. unit_at j i)) j) (item (tabulate n (λ j. nought)) j)) (λ j. cond (ltb j first) (unit_at j i) (cond (ltb j (0 + first)) (sub binary64 (unit_at j i) (item x (j - first))) (unit_at j i)))
+    (λ j hj. ap₂ (sub binary64) (get_d_tabulate nan n j (λ j. unit_at j i) hj) (get_d_tabulate nan n j (λ j. nought) hj)
+    ∙ less_zero_of (eqb i j) nought (false, refl)
+    ∙ sym (either (ltb j first) (ltb j (0 + first)) (unit_at j i) (sub binary64 (unit_at j i) (item x (j - first))) (ap (ltb j) (omega arith))))
+  where
+    either : (t s : Bool) (u w : Float) → t ≡ s → cond t u (cond s w u) ≡ u
+    either true s u w e = refl
+    either false true u w e = absurd (clash e)
+    either false false u w e = refl
+
+-- a row of K whose sum is finite
+pub finite_read : (k n first : ℕ) (x : Vector) (i : ℕ) → ((m : ℕ) → m < k → T (fits binary64 (item x m))) → finite (sum_of k (λ m. item x m)) ≡ true → rest_row n k first x i ≡ less_from n i (row_times k n x (selection k n first))
+finite_read zero n first x i fit t = sym (none_read n first x i)
+finite_read (suc c) n first x i fit t = sym (rest_read c n first x (λ m h. (fit m (omega (arith, h)), terms_finite c (item x) t m h)) i)

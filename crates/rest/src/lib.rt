@@ -1,109 +1,94 @@
-// What a gain K leaves of a state: I − K H, for an H that selects items. Of a finite row of K it is read off, bit for bit what the products give; else it is worked out.
+// What a gain K leaves of a state: I − K H, for an H that selects N items from FROM on. Of a finite row of K it is read off, bit for bit what the products give; else it is worked out.
 #![tactic(auto)]
 
-ghost use Rattle.std.specs.Prelude.{◌≡◌};
-ghost use Rattle.matrix.specs.Matrix.{row_times, product, minus, identity};
+ghost use Rattle.std.specs.Prelude.{◌≡◌, ◌<◌, ◌≤◌, ◌+◌, ◌-◌, cond, ltb};
+ghost use Rattle.std.specs.Float.{binary64};
+ghost use Rattle.std.specs.Float.Ieee.{sub, mul};
+ghost use Rattle.matrix.specs.Matrix.{item, row, sum_of, row_times, product, minus, identity};
 ghost use Rattle.models.specs.Models.{selection};
-ghost use Rattle.selected.specs.Units.{less_from, rest_row};
+ghost use Rattle.selected.specs.Units.{unit_at, less_from, rest_row};
+
+use std::array::from_fn;
 
 // Row i of the identity less the row x of a gain times H: read off, and worked out.
-fn position_row_read(x: [f64; 3], i: usize) -> [f64; 6]
-    ensures { result ≡ rest_row 6 3 0 x i }
+fn row_read<const N: usize, const FROM: usize>(x: [f64; N], i: usize) -> [f64; 6]
+    requires { N + FROM ≤ 6 }
+    ensures { result ≡ rest_row 6 N FROM x.entry i }
 {
-    [
-        selected::unit(0, i) - x[0],
-        selected::unit(1, i) - x[1],
-        selected::unit(2, i) - x[2],
-        selected::unit(3, i),
-        selected::unit(4, i),
-        selected::unit(5, i),
-    ]
+    from_fn(
+        |j| -> f64
+            requires { N + FROM ≤ 6 }
+            ensures { result ≡ cond (ltb j FROM) (unit_at j i) (cond (ltb j (N + FROM)) (sub binary64 (unit_at j i) (item x (j - FROM))) (unit_at j i)) }
+        {
+            let unit = selected::unit(j, i);
+            if FROM <= j && j < N + FROM {
+                unit - x[j - FROM]
+            } else {
+                unit
+            }
+        },
+    )
 }
 
-fn position_row_worked(x: [f64; 3], i: usize) -> [f64; 6]
-    ensures { result ≡ less_from 6 i (row_times 3 6 x (selection 3 6 0)) }
+// The row x of a gain times column j of H.
+fn column_seen<const N: usize, const FROM: usize>(x: [f64; N], j: usize) -> f64
+    requires { N + FROM ≤ 6 }
+    ensures { result ≡ sum_of N (λ m. mul binary64 (item x.entry m) (unit_at (m + FROM) j)) }
 {
-    [
-        selected::unit(0, i) - (x[0] * 1.0 + x[1] * 0.0 + x[2] * 0.0),
-        selected::unit(1, i) - (x[0] * 0.0 + x[1] * 1.0 + x[2] * 0.0),
-        selected::unit(2, i) - (x[0] * 0.0 + x[1] * 0.0 + x[2] * 1.0),
-        selected::unit(3, i) - (x[0] * 0.0 + x[1] * 0.0 + x[2] * 0.0),
-        selected::unit(4, i) - (x[0] * 0.0 + x[1] * 0.0 + x[2] * 0.0),
-        selected::unit(5, i) - (x[0] * 0.0 + x[1] * 0.0 + x[2] * 0.0),
-    ]
+    sums::sum::<N>(from_fn(
+        |m| -> f64
+            requires { (m < N) × (m + FROM < 6) }
+            ensures { result ≡ mul binary64 (item x m) (unit_at (m + FROM) j) }
+        { x[m] * selected::unit(m + FROM, j) },
+    ))
 }
 
-fn position_row(x: [f64; 3], i: usize) -> [f64; 6]
-    ensures { result ≡ less_from 6 i (row_times 3 6 x (selection 3 6 0)) }
+fn row_worked<const N: usize, const FROM: usize>(x: [f64; N], i: usize) -> [f64; 6]
+    requires { N + FROM ≤ 6 }
+    ensures { result ≡ less_from 6 i (row_times N 6 x.entry (selection N 6 FROM)) }
 {
-    if number::float::is_finite(x[0] + x[1] + x[2]) {
-        position_row_read(x, i)
+    from_fn(
+        |j| -> f64
+            requires { N + FROM ≤ 6 }
+            ensures { result ≡ sub binary64 (unit_at j i) (sum_of N (λ m. mul binary64 (item x m) (unit_at (m + FROM) j))) }
+        { selected::unit(j, i) - column_seen::<N, FROM>(x, j) },
+    )
+}
+
+fn row<const N: usize, const FROM: usize>(x: [f64; N], i: usize) -> [f64; 6]
+    requires { N + FROM ≤ 6 }
+    ensures { result ≡ less_from 6 i (row_times N 6 x.entry (selection N 6 FROM)) }
+{
+    if number::float::is_finite(sums::sum(x)) {
+        row_read::<N, FROM>(x, i)
     } else {
-        position_row_worked(x, i)
+        row_worked::<N, FROM>(x, i)
     }
+}
+
+// What a gain for those items leaves of a state.
+fn rest<const N: usize, const FROM: usize>(k: [[f64; N]; 6]) -> [[f64; 6]; 6]
+    requires { N + FROM ≤ 6 }
+    ensures { result ≡ minus 6 6 (identity 6) (product 6 N 6 k.entry (selection N 6 FROM)) }
+{
+    from_fn(
+        |i| -> [f64; 6]
+            requires { (i < 6) × (N + FROM ≤ 6) }
+            ensures { result ≡ less_from 6 i (row_times N 6 (row k i) (selection N 6 FROM)) }
+        { row::<N, FROM>(k[i], i) },
+    )
 }
 
 // What a gain for the position leaves of a state.
 pub fn position_rest(k: [[f64; 3]; 6]) -> [[f64; 6]; 6]
     ensures { result ≡ minus 6 6 (identity 6) (product 6 3 6 k (selection 3 6 0)) }
 {
-    [
-        position_row(k[0], 0),
-        position_row(k[1], 1),
-        position_row(k[2], 2),
-        position_row(k[3], 3),
-        position_row(k[4], 4),
-        position_row(k[5], 5),
-    ]
-}
-
-// Row i of the identity less the row x of a gain times H: read off, and worked out.
-fn velocity_row_read(x: [f64; 2], i: usize) -> [f64; 6]
-    ensures { result ≡ rest_row 6 2 3 x i }
-{
-    [
-        selected::unit(0, i),
-        selected::unit(1, i),
-        selected::unit(2, i),
-        selected::unit(3, i) - x[0],
-        selected::unit(4, i) - x[1],
-        selected::unit(5, i),
-    ]
-}
-
-fn velocity_row_worked(x: [f64; 2], i: usize) -> [f64; 6]
-    ensures { result ≡ less_from 6 i (row_times 2 6 x (selection 2 6 3)) }
-{
-    [
-        selected::unit(0, i) - (x[0] * 0.0 + x[1] * 0.0),
-        selected::unit(1, i) - (x[0] * 0.0 + x[1] * 0.0),
-        selected::unit(2, i) - (x[0] * 0.0 + x[1] * 0.0),
-        selected::unit(3, i) - (x[0] * 1.0 + x[1] * 0.0),
-        selected::unit(4, i) - (x[0] * 0.0 + x[1] * 1.0),
-        selected::unit(5, i) - (x[0] * 0.0 + x[1] * 0.0),
-    ]
-}
-
-fn velocity_row(x: [f64; 2], i: usize) -> [f64; 6]
-    ensures { result ≡ less_from 6 i (row_times 2 6 x (selection 2 6 3)) }
-{
-    if number::float::is_finite(x[0] + x[1]) {
-        velocity_row_read(x, i)
-    } else {
-        velocity_row_worked(x, i)
-    }
+    rest::<3, 0>(k)
 }
 
 // What a gain for the velocity along x and y leaves of a state.
 pub fn velocity_rest(k: [[f64; 2]; 6]) -> [[f64; 6]; 6]
     ensures { result ≡ minus 6 6 (identity 6) (product 6 2 6 k (selection 2 6 3)) }
 {
-    [
-        velocity_row(k[0], 0),
-        velocity_row(k[1], 1),
-        velocity_row(k[2], 2),
-        velocity_row(k[3], 3),
-        velocity_row(k[4], 4),
-        velocity_row(k[5], 5),
-    ]
+    rest::<2, 3>(k)
 }

@@ -2,4 +2,3 @@ pub mod Picks
 pub mod Selected
 pub mod Plain
 pub mod Reading
-pub mod Arrays

@@ -1,12 +1,12 @@
 -- H P Hᵀ and P Hᵀ for an H that selects items, and a plain P: they are read off P, with +0 added, which only makes a -0 a +0. Assumes nothing.
-use mathlib.Core.Path.{◌≡◌, refl, sym, ap, ap₂, ◌∙◌, subst}
+use mathlib.Core.Path.{◌≡◌, refl, sym, ap, ap₂, ◌∙◌}
 use mathlib.Core.Logic.{inl}
-use mathlib.Core.Bool.{Bool, true, false}
+use mathlib.Core.Bool.{true}
 use mathlib.Core.List.{[]}
 use Prim.Native.Nat.{ℕ, suc, ◌+◌, ◌≤◌, ◌<◌}
 use native.Mathlib.Omega.{arith}
 use lib.Dec.{T}
-use lib.Ieee.{Float, nan, binary64, add, mul, lt, fits}
+use lib.Ieee.{Float, nan, binary64, add, mul, fits}
 use lib.Ieee.Fits.{add-fits}
 use Rattle.matrix.specs.Matrix.{Matrix, item, row, entry, tabulate, nought, sum_to, row_times, product, transposed, congruence}
 use Rattle.models.specs.Models.{selection}

@@ -1,18 +1,17 @@
 -- What a row of the identity makes of finite numbers: a sum of products with it is the number that it selects, but for a zero's sign. Assumes nothing.
 use mathlib.Core.Path.{◌≡◌, refl, sym, ap, ap₂, ◌∙◌, subst}
-use mathlib.Core.Logic.{◌⊎◌, inl, inr}
 use mathlib.Core.Bool.{Bool, true, false, cond}
 use Prim.Native.Nat.{ℕ, zero, suc, ◌*◌, ◌≤◌}
-use lib.Dec.{T, eqb}
-use lib.Ieee.{Float, nan, inf, fin, binary64, up, down, round, add, mul, lt, fits, of_bits, unlike}
+use lib.Dec.{eqb}
+use lib.Ieee.{Float, nan, inf, fin, binary64, up, down, round, add, mul, lt, of_bits, unlike}
 use lib.Ieee.Fits.{mul-fits}
 use native.Mathlib.Nat.{le_refl}
 use borrow.Author.Tests.{eq-eqb, ne_eqb, eqb-true, eqb-false}
 use Rattle.number.proofs.Zeros.{impossible}
-use Rattle.number.proofs.Held.{zero_of, one_times, zero_times, mul_turned}
+use Rattle.number.proofs.Held.{one_times, zero_times, mul_turned}
 use Rattle.number.proofs.Plus.{round_plus}
 use Rattle.number.proofs.Minus.{is_minus_zero, plus_no_minus}
-use Rattle.matrix.specs.Matrix.{nought, one, sum_to, sum_of}
+use Rattle.matrix.specs.Matrix.{nought, one, sum_to}
 use Rattle.selected.specs.Units.{unit_at}
 use Rattle.selected.proofs.Picks.{Fits, Held, IsZero, Near, from, picked}
 

@@ -69,5 +69,5 @@ pub fn is_above(p: [[f64; 6]; 6]) -> bool
 pub fn is_plain(p: [[f64; 6]; 6]) -> bool
     ensures { result ≡ is_plain 6 p }
 {
-    number::float::is_finite(finite6::total_6x6(p)) & is_above(p)
+    number::float::is_finite(finite::total(p)) & is_above(p)
 }

@@ -1,9 +1,8 @@
 -- Frames compared by their lengths and then by their bytes. Assumes nothing.
-use mathlib.Core.Path.{◌≡◌, refl, sym, ap, ◌∙◌, subst}
+use Rattle.std.specs.Prelude.{None, Some}
+use mathlib.Core.Path.{◌≡◌, refl, sym, ◌∙◌}
 use mathlib.Core.Bool.{Bool, true, false, cond}
-use mathlib.Core.List.{List}
-use mathlib.Core.Option.{Option, none, some}
-use Prim.Native.Nat.{ℕ, ◌≤◌, ◌<◌}
+use Prim.Native.Nat.{◌≤◌, ◌<◌}
 use native.Mathlib.Omega.{arith}
 use lib.Dec.{ltb}
 use lib.ListN.{length, take}
@@ -26,7 +25,7 @@ pub two_lengths : (a b : FrameName) → length a.bytes ≡ 32 → length b.bytes
 unfolding same_frame name_of
 two_lengths a b la lb h d = rw (le-ltb 32 a.length h) (go (ltb 32 b.length) refl)
   where
-    go : (t : Bool) → ltb 32 b.length ≡ t → false ≡ same_name (some (take a.length a.bytes)) (cond t none (some (take b.length b.bytes)))
+    go : (t : Bool) → ltb 32 b.length ≡ t → false ≡ same_name (Some (take a.length a.bytes)) (cond t None (Some (take b.length b.bytes)))
     go true e = refl
     go false e =
         sym (same_length (take a.length a.bytes) (take b.length b.bytes)

@@ -1,16 +1,11 @@
 -- The settings that hold where nothing is set, and the fields that are checked, in 01's order.
-use Rattle.std.specs.Prelude.{ℕ, false, List, [], ◌∷◌, ltb, eqb, pos, Float}
+use Rattle.std.specs.Prelude.{ℕ, false, List, [], ◌∷◌, ltb, eqb, pos, Float, Err, None, Ok, Result, Some}
 use Rattle.std.specs.Int.Signed.{lt_z}
 use Rattle.std.specs.Float.{binary64}
 use Rattle.std.specs.Float.Ieee.{round}
 use Rattle.lifecycle.specs.declared.LifecycleConfig.{LifecycleConfig}
-use Rattle.settings.specs.declared.optional.OptionalF64.TheVariants as f64
-use Rattle.settings.specs.declared.optional.OptionalI64.TheVariants as i64
-use Rattle.settings.specs.declared.optional.OptionalU32.TheVariants as u32
 use Rattle.settings.specs.declared.Cartesian3DTrackerConfig.{Cartesian3DTrackerConfig}
-use Rattle.settings.specs.declared.Validation.{Validation}
-use Rattle.settings.specs.declared.Validation.TheVariants.{Accepted, BadField}
-use Rattle.settings.specs.Optional.{f64_of, i64_of, u32_of, set_and}
+use Rattle.settings.specs.Optional.{set_and}
 use Rattle.settings.specs.Frame.{world_frame, too_long}
 use Rattle.settings.specs.Fields.{Field, field, first_bad, SettingsReply, accepted, refused, negative_number, not_positive_number, outside_unit, not_positive_time, below_two}
 
@@ -33,19 +28,19 @@ unfoldable pub default_settings : Cartesian3DTrackerConfig
 default_settings =
     record {
       lifecycle = default_lifecycle;
-      new_track_score_threshold = f64.Some (decimal 3 10);
+      new_track_score_threshold = Some (decimal 3 10);
       max_contributing_sensors = 16;
       frame_id = world_frame;
       accel_spectral_density = decimal 1 1;
       initial_velocity_variance = decimal 4 1;
       gate_squared_mahalanobis = decimal 16266 1000;
       class_prior_penalty = decimal 8 1;
-      recent_track_window_ns = i64.None;
-      min_birth_distance_m = f64.None;
-      birth_persistence = u32.None;
+      recent_track_window_ns = None;
+      min_birth_distance_m = None;
+      birth_persistence = None;
       birth_candidate_radius_m = decimal 1 2;
       birth_candidate_timeout_ns = pos 300000000;
-      velocity_measurement_std = f64.None;
+      velocity_measurement_std = None;
     }
 
 -- ---- the check
@@ -59,17 +54,17 @@ fields_of c =
     ∷ field 2 (not_positive_time c.lifecycle.confirmed_to_lost_ns)
     ∷ field 3 (lt_z c.lifecycle.lost_to_delete_ns c.lifecycle.confirmed_to_lost_ns)
     ∷ field 4 (eqb c.max_contributing_sensors 0)
-    ∷ field 5 (set_and outside_unit (f64_of c.new_track_score_threshold))
+    ∷ field 5 (set_and outside_unit (c.new_track_score_threshold))
     ∷ field 6 (negative_number c.accel_spectral_density)
     ∷ field 7 (not_positive_number c.initial_velocity_variance)
     ∷ field 8 (not_positive_number c.gate_squared_mahalanobis)
     ∷ field 9 (negative_number c.class_prior_penalty)
-    ∷ field 10 (set_and not_positive_number (f64_of c.min_birth_distance_m))
-    ∷ field 11 (set_and below_two (u32_of c.birth_persistence))
+    ∷ field 10 (set_and not_positive_number (c.min_birth_distance_m))
+    ∷ field 11 (set_and below_two (c.birth_persistence))
     ∷ field 12 (not_positive_number c.birth_candidate_radius_m)
     ∷ field 13 (not_positive_time c.birth_candidate_timeout_ns)
-    ∷ field 14 (set_and not_positive_number (f64_of c.velocity_measurement_std))
-    ∷ field 15 (set_and not_positive_time (i64_of c.recent_track_window_ns))
+    ∷ field 14 (set_and not_positive_number (c.velocity_measurement_std))
+    ∷ field 15 (set_and not_positive_time (c.recent_track_window_ns))
     ∷ field 16 (too_long c.frame_id)
     ∷ field 17 (ltb 16 c.max_contributing_sensors)
     ∷ []
@@ -78,6 +73,6 @@ unfoldable pub settings_reply : Cartesian3DTrackerConfig → SettingsReply
 settings_reply c = first_bad (fields_of c)
 
 -- the answer in 01's numbers
-abbrev pub reply_of : Validation → SettingsReply
-reply_of Accepted = accepted
-reply_of (BadField k) = refused 1 k
+abbrev pub reply_of : Result (Unit {0}) ℕ → SettingsReply
+reply_of (Ok _) = accepted
+reply_of (Err k) = refused 1 k

@@ -4,37 +4,31 @@ ghost use Rattle.settings.specs.Fields.{accepted, field, next, walk};
 ghost use Rattle.settings.specs.Settings.{reply_of, fields_of};
 
 use super::fields::{negative, not_positive, not_positive_time};
-use super::{Cartesian3DTrackerConfig, Validation, fields, frame};
+use super::{Cartesian3DTrackerConfig, fields, frame};
 
 // The answer after one field more: an earlier bad field stays.
-fn checked(earlier: Validation, number: u32, bad: bool) -> Validation
+fn checked(earlier: Result<(), u32>, number: u32, bad: bool) -> Result<(), u32>
     ensures { reply_of result ≡ next (reply_of earlier) (field number bad) }
 {
     match earlier {
-        Validation::Accepted => {
-            if bad {
-                Validation::BadField(number)
-            } else {
-                Validation::Accepted
-            }
-        }
-        Validation::BadField(n) => Validation::BadField(n),
+        Ok(()) => { if bad { Err(number) } else { Ok(()) } }
+        Err(n) => Err(n),
     }
 }
 
 // Fields 1 to 3.
-pub fn lifecycle(c: Cartesian3DTrackerConfig) -> Validation
+pub fn lifecycle(c: Cartesian3DTrackerConfig) -> Result<(), u32>
     ensures { reply_of result ≡ walk accepted (take 3 (fields_of c)) }
 {
     let life = c.lifecycle;
-    let v = Validation::Accepted;
+    let v = Ok(());
     let v = checked(v, 1, not_positive_time(life.tentative_timeout_ns));
     let v = checked(v, 2, not_positive_time(life.confirmed_to_lost_ns));
     checked(v, 3, life.lost_to_delete_ns < life.confirmed_to_lost_ns)
 }
 
 // Fields 4 to 9.
-pub fn numbers(earlier: Validation, c: Cartesian3DTrackerConfig) -> Validation
+pub fn numbers(earlier: Result<(), u32>, c: Cartesian3DTrackerConfig) -> Result<(), u32>
     ensures { reply_of result ≡ walk (reply_of earlier) (take 6 (drop 3 (fields_of c))) }
 {
     let threshold = c.new_track_score_threshold;
@@ -47,7 +41,7 @@ pub fn numbers(earlier: Validation, c: Cartesian3DTrackerConfig) -> Validation
 }
 
 // Fields 10 to 13.
-pub fn births(earlier: Validation, c: Cartesian3DTrackerConfig) -> Validation
+pub fn births(earlier: Result<(), u32>, c: Cartesian3DTrackerConfig) -> Result<(), u32>
     ensures { reply_of result ≡ walk (reply_of earlier) (take 4 (drop 9 (fields_of c))) }
 {
     let distance = c.min_birth_distance_m;
@@ -59,7 +53,7 @@ pub fn births(earlier: Validation, c: Cartesian3DTrackerConfig) -> Validation
 }
 
 // The fields from 14 on.
-pub fn rest(earlier: Validation, c: Cartesian3DTrackerConfig) -> Validation
+pub fn rest(earlier: Result<(), u32>, c: Cartesian3DTrackerConfig) -> Result<(), u32>
     ensures { reply_of result ≡ walk (reply_of earlier) (drop 13 (fields_of c)) }
 {
     let deviation = c.velocity_measurement_std;

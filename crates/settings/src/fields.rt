@@ -1,9 +1,8 @@
 // Whether a field is bad: the tests of the Rust's `validate`, one for each kind of field.
 ghost use Rattle.std.specs.Prelude.{◌≡◌};
-ghost use Rattle.settings.specs.Optional.{f64_of, i64_of, u32_of, set_and};
+ghost use Rattle.settings.specs.Optional.{set_and};
 ghost use Rattle.settings.specs.Fields.{negative_number, not_positive_number, outside_unit, not_positive_time, below_two};
 
-use super::optional::{OptionalF64, OptionalI64, OptionalU32};
 use number::float::is_finite;
 
 // Whether a number is not finite, or below 0.
@@ -34,38 +33,38 @@ pub fn not_positive_time(t: i64) -> bool
     t <= 0
 }
 
-pub fn threshold_is_bad(threshold: OptionalF64) -> bool
-    ensures { result ≡ set_and outside_unit (f64_of threshold) }
+pub fn threshold_is_bad(threshold: Option<f64>) -> bool
+    ensures { result ≡ set_and outside_unit (threshold) }
 {
     match threshold {
-        OptionalF64::None => false,
-        OptionalF64::Some(x) => outside_unit(x),
+        None => false,
+        Some(x) => outside_unit(x),
     }
 }
 
-pub fn length_is_bad(length: OptionalF64) -> bool
-    ensures { result ≡ set_and not_positive_number (f64_of length) }
+pub fn length_is_bad(length: Option<f64>) -> bool
+    ensures { result ≡ set_and not_positive_number (length) }
 {
     match length {
-        OptionalF64::None => false,
-        OptionalF64::Some(x) => not_positive(x),
+        None => false,
+        Some(x) => not_positive(x),
     }
 }
 
-pub fn persistence_is_bad(persistence: OptionalU32) -> bool
-    ensures { result ≡ set_and below_two (u32_of persistence) }
+pub fn persistence_is_bad(persistence: Option<u32>) -> bool
+    ensures { result ≡ set_and below_two (persistence) }
 {
     match persistence {
-        OptionalU32::None => false,
-        OptionalU32::Some(n) => n < 2,
+        None => false,
+        Some(n) => n < 2,
     }
 }
 
-pub fn window_is_bad(window: OptionalI64) -> bool
-    ensures { result ≡ set_and not_positive_time (i64_of window) }
+pub fn window_is_bad(window: Option<i64>) -> bool
+    ensures { result ≡ set_and not_positive_time (window) }
 {
     match window {
-        OptionalI64::None => false,
-        OptionalI64::Some(t) => not_positive_time(t),
+        None => false,
+        Some(t) => not_positive_time(t),
     }
 }

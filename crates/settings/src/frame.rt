@@ -17,34 +17,13 @@ pub fn too_long(frame: FrameName) -> bool
     32 < frame.length
 }
 
-// Whether the first n bytes of two names are the same.
-fn same_bytes(a: [u8; 32], b: [u8; 32], n: usize) -> bool
-    requires { n ≤ 32 }
-    ensures { result ≡ same (take n a) (take n b) }
-{
-    let mut i: usize = 0;
-    while i < n {
-        if a[i] != b[i] {
-            return false;
-        }
-        i += 1;
-    }
-    true
-}
-
 // Whether two frames are the same; one whose name is too long is the same as none.
 pub fn same_frame(a: FrameName, b: FrameName) -> bool
     ensures { result ≡ same_frame a b }
 {
-    let length = a.length;
-    let bytes = a.bytes;
-    let others = b.bytes;
-    if 32 < length {
+    let n = a.length;
+    if 32 < n || n != b.length {
         return false;
     }
-    if length == b.length {
-        same_bytes(bytes, others, length)
-    } else {
-        false
-    }
+    a.bytes[..n] == b.bytes[..n]
 }

@@ -7,18 +7,16 @@ ghost use Rattle.settings.specs.Settings.{default_settings, reply_of, settings_r
 mod check;
 mod fields;
 pub mod frame;
-pub mod optional;
 
 use frame::FrameName;
 use lifecycle::LifecycleConfig;
-use optional::{OptionalF64, OptionalI64, OptionalU32};
 
 #[derive(Clone, Copy)]
 pub struct Cartesian3DTrackerConfig {
     // When a track is confirmed, lost and dropped.
     pub lifecycle: LifecycleConfig,
     // Detections below this score begin no track.
-    pub new_track_score_threshold: OptionalF64,
+    pub new_track_score_threshold: Option<f64>,
     // How many sensors a track remembers.
     pub max_contributing_sensors: usize,
     // The one frame whose batches are taken.
@@ -32,24 +30,17 @@ pub struct Cartesian3DTrackerConfig {
     // What a class against the prior adds to a pair's cost at confidence 1.
     pub class_prior_penalty: f64,
     // Tracks seen within this time are paired first.
-    pub recent_track_window_ns: OptionalI64,
+    pub recent_track_window_ns: Option<i64>,
     // Detections nearer than this to a confirmed track begin none at once.
-    pub min_birth_distance_m: OptionalF64,
+    pub min_birth_distance_m: Option<f64>,
     // Sightings after which such a detection begins one all the same.
-    pub birth_persistence: OptionalU32,
+    pub birth_persistence: Option<u32>,
     // How near a sighting must be to continue a candidate.
     pub birth_candidate_radius_m: f64,
     // A candidate that is not seen for longer is forgotten.
     pub birth_candidate_timeout_ns: i64,
     // The standard deviation of a measured velocity, in m/s on each axis; without one, measured velocities are passed over.
-    pub velocity_measurement_std: OptionalF64,
-}
-
-// What the check answers: the settings may be used, or the number of the first bad field.
-#[derive(Clone, Copy)]
-pub enum Validation {
-    Accepted,
-    BadField(u32),
+    pub velocity_measurement_std: Option<f64>,
 }
 
 impl Cartesian3DTrackerConfig {
@@ -92,7 +83,7 @@ impl Cartesian3DTrackerConfig {
             confirmed_to_lost_ns: Self::DEFAULT_CONFIRMED_TO_LOST_NS,
             lost_to_delete_ns: Self::DEFAULT_LOST_TO_DELETE_NS,
         };
-        let new_track_score_threshold = OptionalF64::Some(Self::DEFAULT_NEW_TRACK_SCORE_THRESHOLD);
+        let new_track_score_threshold = Some(Self::DEFAULT_NEW_TRACK_SCORE_THRESHOLD);
         Cartesian3DTrackerConfig {
             lifecycle,
             new_track_score_threshold,
@@ -102,17 +93,17 @@ impl Cartesian3DTrackerConfig {
             initial_velocity_variance: Self::DEFAULT_INITIAL_VELOCITY_VARIANCE,
             gate_squared_mahalanobis: Self::DEFAULT_GATE_SQUARED_MAHALANOBIS,
             class_prior_penalty: Self::DEFAULT_CLASS_PRIOR_PENALTY,
-            recent_track_window_ns: OptionalI64::None,
-            min_birth_distance_m: OptionalF64::None,
-            birth_persistence: OptionalU32::None,
+            recent_track_window_ns: None,
+            min_birth_distance_m: None,
+            birth_persistence: None,
             birth_candidate_radius_m: Self::DEFAULT_BIRTH_CANDIDATE_RADIUS_M,
             birth_candidate_timeout_ns: Self::DEFAULT_BIRTH_CANDIDATE_TIMEOUT_NS,
-            velocity_measurement_std: OptionalF64::None,
+            velocity_measurement_std: None,
         }
     }
 
     // Whether the settings may be used, else their first bad field.
-    pub fn validate(self) -> Validation
+    pub fn validate(self) -> Result<(), u32>
         ensures { reply_of result ≡ settings_reply self }
     {
         let v = check::lifecycle(self);

@@ -1,3 +1,3 @@
 -- The laws that the proofs cite.
 pub mod Sights
-pub mod Kin
+pub mod Same

@@ -1,4 +1,5 @@
 -- What the loop that lays detections out has done by index j. Assumes nothing.
+use Rattle.std.specs.Prelude.{None, Option, Some}
 use mathlib.Core.Path.{◌≡◌, refl, sym, ap, ◌∙◌, subst}
 use mathlib.Core.Bool.{Bool, false, cond}
 use mathlib.Core.List.{List, [], ◌∷◌, map}
@@ -9,8 +10,6 @@ use lib.ListN.{length, take, get_or, set, length-set}
 use lib.Seq.{get_or-set_same, get_or-set_other}
 use Rattle.matrix.specs.Matrix.{Vector, tabulate}
 use Rattle.matrix.proofs.Tabulated.{get_d_tabulate, tabulate_same}
-use Rattle.detections.specs.declared.Class.{Class}
-use Rattle.detections.specs.declared.Class.TheVariants.{Unknown, Label}
 use Rattle.detections.specs.declared.Detection.{Detection}
 use Rattle.batches.proofs.Checks.{no_detection}
 use Rattle.sightings.specs.Sights.{label_of, is_labelled, class_at, sight, sight_of, sight_at, sights_in}
@@ -45,12 +44,12 @@ pub record Sighted (observations : List Detection) (j : ℕ) (positions noises :
   pub at : (k : ℕ) → k < j → sight_at positions noises labels labelled k ≡ sight_of (get_or observations k no_detection)
 
 -- a class that is laid is read again
-class_back : (labels : List ℕ) (labelled : List Bool) (j : ℕ) (c : Class) → length labels ≡ 64 → length labelled ≡ 64 → j < 64 → class_at (set labels j (label_of c)) (set labelled j (is_labelled c)) j ≡ c
+class_back : (labels : List ℕ) (labelled : List Bool) (j : ℕ) (c : Option ℕ) → length labels ≡ 64 → length labelled ≡ 64 → j < 64 → class_at (set labels j (label_of c)) (set labelled j (is_labelled c)) j ≡ c
 class_back labels labelled j c a b h = rw (get_or-set_same labels j (label_of c) 0 (rw a h), get_or-set_same labelled j (is_labelled c) false (rw b h)) (by c)
   where
-    by : (c : Class) → cond (is_labelled c) (Label (label_of c)) Unknown ≡ c
-    by Unknown = refl
-    by (Label x) = refl
+    by : (c : Option ℕ) → cond (is_labelled c) (Some (label_of c)) None ≡ c
+    by None = refl
+    by (Some x) = refl
 
 module _ (observations : List Detection) where
   pub sighted_none : (positions noises : List Vector) (labels : List ℕ) (labelled : List Bool) → length positions ≡ 64 → length noises ≡ 64 → length labels ≡ 64 → length labelled ≡ 64

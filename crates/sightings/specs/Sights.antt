@@ -1,30 +1,26 @@
 -- Detections as arrays of numbers hold them. Of a detection a pair depends on its position, its covariance and its class. 01, Detection: "A pair may be made if classes agree or one is absent,
 -- the squared distance is at most the gate, and the cost with prior penalty stays finite."
-use Rattle.std.specs.Prelude.{ℕ, ◌≤◌, ◌<◌, ◌≡◌, Bool, true, false, cond, List, [], length, get_or}
+use Rattle.std.specs.Prelude.{ℕ, ◌≤◌, ◌<◌, ◌≡◌, Bool, true, false, cond, List, [], length, get_or, None, Option, Some}
 use Rattle.matrix.specs.Matrix.{Vector, tabulate}
-use Rattle.detections.specs.declared.Class.{Class}
-use Rattle.detections.specs.declared.Class.TheVariants.{Unknown, Label}
-use Rattle.detections.specs.declared.Velocity.TheVariants.{Unmeasured}
-use Rattle.detections.specs.declared.Score.TheVariants.{Unscored}
 use Rattle.detections.specs.declared.Detection.{Detection}
 
 -- ---- a class as a number, and whether there is one
 
-abbrev pub label_of : Class → ℕ
-label_of Unknown = 0
-label_of (Label x) = x
+abbrev pub label_of : Option ℕ → ℕ
+label_of None = 0
+label_of (Some x) = x
 
-abbrev pub is_labelled : Class → Bool
-is_labelled Unknown = false
-is_labelled (Label x) = true
+abbrev pub is_labelled : Option ℕ → Bool
+is_labelled None = false
+is_labelled (Some x) = true
 
-abbrev pub class_at : List ℕ → List Bool → ℕ → Class
-class_at labels labelled j = cond (get_or labelled j false) (Label (get_or labels j 0)) Unknown
+abbrev pub class_at : List ℕ → List Bool → ℕ → Option ℕ
+class_at labels labelled j = cond (get_or labelled j false) (Some (get_or labels j 0)) None
 
 -- ---- what pairs read of a detection, with nothing in the place of the rest
 
-abbrev pub sight : Vector → Vector → Class → Detection
-sight z r class = record { position = z; covariance = r; velocity = Unmeasured; class_label = class; score = Unscored }
+abbrev pub sight : Vector → Vector → Option ℕ → Detection
+sight z r class = record { position = z; covariance = r; velocity = None; class_label = class; score = None }
 
 abbrev pub sight_of : Detection → Detection
 sight_of d = sight d.position d.covariance d.class_label

@@ -4,39 +4,35 @@
 ghost use Rattle.std.specs.Prelude.{◌≡◌, true, map, ◌≤◌, ◌<◌, length, take};
 ghost use Rattle.sightings.specs.Sights.{label_of, is_labelled, class_at, sight_of, sights_in, Kin};
 
-use detections::{Class, Detection};
+use detections::Detection;
 use types::MAX_OBSERVATIONS;
 
 // A class as a number, and whether there is one.
-fn label_of(class: Class) -> u32
+fn label_of(class: Option<u32>) -> u32
     ensures { result ≡ label_of class }
 {
     match class {
-        Class::Unknown => 0,
-        Class::Label(x) => x,
+        None => 0,
+        Some(x) => x,
     }
 }
 
-fn is_labelled(class: Class) -> bool
+fn is_labelled(class: Option<u32>) -> bool
     ensures { result ≡ is_labelled class }
 {
     match class {
-        Class::Unknown => false,
-        Class::Label(_) => true,
+        None => false,
+        Some(_) => true,
     }
 }
 
 // The class of the detection at j.
 // A leaf, as all that is public here: the pairing stage lends arrays that it has just made, and counts of at most 64.
-pub fn class_at(labels: &[u32; 64], labelled: &[bool; 64], j: usize) -> Class
+pub fn class_at(labels: &[u32; 64], labelled: &[bool; 64], j: usize) -> Option<u32>
     requires { j < 64 }
     ensures { result ≡ class_at labels.now labelled.now j }
 {
-    if labelled[j] {
-        Class::Label(labels[j])
-    } else {
-        Class::Unknown
-    }
+    if labelled[j] { Some(labels[j]) } else { None }
 }
 
 // A leaf, as above. The first m detections, each into its place of the four arrays. What stands behind them is open: nobody reads it.
@@ -51,8 +47,7 @@ pub fn lay_detections(
     requires { (m ≤ 64) × (length positions.old ≡ 64) × (length noises.old ≡ 64) × (length labels.old ≡ 64) × (length labelled.old ≡ 64) }
     ensures { sights_in positions.new noises.new labels.new labelled.new m ≡ map sight_of (take m observations) }
 {
-    let mut j: usize = 0;
-    while j < m {
+    for j in 0..m {
         let d = observations[j];
         let position = d.position;
         let noise = d.covariance;
@@ -61,7 +56,6 @@ pub fn lay_detections(
         noises[j] = noise;
         labels[j] = label_of(class);
         labelled[j] = is_labelled(class);
-        j += 1;
     }
 }
 
@@ -79,13 +73,10 @@ fn is_same(a: f64, b: f64) -> bool
 fn is_same_noise(a: [f64; 9], b: [f64; 9]) -> bool
     ensures { result ≡ true → a ≡ b }
 {
-    let mut i: usize = 0;
-    while i < 9 {
-        if is_same(a[i], b[i]) {
-            i += 1;
-            continue;
+    for i in 0..9 {
+        if !is_same(a[i], b[i]) {
+            return false;
         }
-        return false;
     }
     true
 }
@@ -96,17 +87,12 @@ pub fn find_kin(noises: &[[f64; 9]; 64], m: usize, kin: &mut [usize; 64])
     ensures { Kin noises.now m kin.new }
 {
     let mut first: usize = 0;
-    let mut j: usize = 0;
-    while j < m {
+    for j in 0..m {
         let a = noises[j];
         let b = noises[first];
-        if is_same_noise(a, b) {
-            kin[j] = first;
-            j += 1;
-            continue;
+        if !is_same_noise(a, b) {
+            first = j;
         }
-        first = j;
-        kin[j] = j;
-        j += 1;
+        kin[j] = first;
     }
 }

@@ -4,7 +4,7 @@ use mathlib.Core.List.{[], ◌∷◌, ◌++◌}
 use Prim.Native.Nat.{ℕ, zero, suc, ◌<◌}
 use native.Mathlib.Omega.{arith}
 use lib.ListN.{length}
-use lib.Ieee.{Float, nan, binary64, mul, div}
+use lib.Ieee.{nan, binary64, mul, div}
 use Rattle.matrix.specs.Matrix.{Vector, Matrix, item, entry, tabulate}
 use Rattle.matrix.proofs.Tabulated.{get_d_tabulate}
 use Rattle.cholesky.specs.Cholesky.{less_each}

@@ -1,6 +1,6 @@
 -- What is solved with a Cholesky factor, for any size, each operation rounded once.
 -- 01, Matrix: "Solving forward subtracts term by term; backward sums first and subtracts once."
-use Rattle.std.specs.Prelude.{ℕ, zero, suc, ◌+◌, ◌-◌, List, [], ◌∷◌, ◌++◌, Float}
+use Rattle.std.specs.Prelude.{ℕ, zero, suc, ◌+◌, ◌-◌, [], ◌∷◌, ◌++◌, Float}
 use Rattle.std.specs.Float.{binary64}
 use Rattle.std.specs.Float.Ieee.{sub, mul, div}
 use Rattle.matrix.specs.Matrix.{Vector, Matrix, item, row, entry, tabulate, sum_of, transposed}

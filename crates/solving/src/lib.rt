@@ -1,4 +1,5 @@
 // What is solved with a Cholesky factor, and the gain. Each answer is equal bit for bit to the definition of any size in specs/.
+// The triangles of two rows and of three are structs of their own entries, so each has its own steps. One function over rows of any number would read zeros above the diagonal and loop over so few terms.
 #![tactic(auto)]
 
 ghost use Rattle.std.specs.Prelude.{◌≡◌};

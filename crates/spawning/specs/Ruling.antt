@@ -1,6 +1,5 @@
 -- The places of confirmed tracks, and what is ruled of a detection.
-use Rattle.std.specs.Prelude.{ℕ, Bool, true, false, List, map, length, take, replicate}
-use Rattle.std.proofs.Math.Option.{Option, none, some}
+use Rattle.std.specs.Prelude.{ℕ, Bool, true, false, List, map, length, take, replicate, None, Option, Some}
 use Rattle.lists.specs.Lay.{lay}
 use Rattle.matrix.specs.Matrix.{Vector}
 use Rattle.types.specs.declared.track.Track3D.{Track3D}
@@ -29,8 +28,8 @@ unfoldable pub places_of : Places → List Vector
 places_of p = map (λ (s : Spot). s.position) (take p.count p.items)
 
 abbrev pub suppressed_by : Option ℕ → Ruling
-suppressed_by none = Passed
-suppressed_by (some required) = Counted required
+suppressed_by None = Passed
+suppressed_by (Some required) = Counted required
 
 -- with a low score, near a confirmed track, under such a persistence
 unfoldable pub ruling_of : Bool → Bool → Option ℕ → Ruling

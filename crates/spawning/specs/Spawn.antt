@@ -1,15 +1,12 @@
 -- What a new track is made of.
-use Rattle.std.specs.Prelude.{ℕ, ◌≡◌, [], ◌∷◌, Float, get_or}
-use Rattle.std.proofs.Math.Option.{Option, none, some}
+use Rattle.math.specs.declared.linalg.Refusal.{Refusal}
+use Rattle.std.specs.Prelude.{ℕ, ◌≡◌, [], ◌∷◌, Float, get_or, Err, None, Ok, Option, Result, Some}
 use Rattle.std.specs.Float.{nan, binary64}
 use Rattle.std.specs.Float.Ieee.{mul}
 use Rattle.number.specs.Reply.{Reply, refused, given, and_then}
-use Rattle.settings.specs.Optional.{f64_of}
 use Rattle.matrix.specs.Matrix.{Vector}
 use Rattle.math.specs.Refusing as math
 use Rattle.filter.specs.declared.KalmanFilter.{KalmanFilter}
-use Rattle.filter.specs.declared.Outcome as filter
-use Rattle.filter.specs.declared.Outcome.TheVariants.{Done, Refused}
 use Rattle.filter.specs.Filter.{filter_with}
 use Rattle.detections.specs.declared.Detection.{Detection}
 use Rattle.types.specs.declared.track.Track3D.{Track3D}
@@ -22,19 +19,19 @@ use Rattle.spawning.specs.declared.spawn.Begin.{Begin}
 use Rattle.spawning.specs.declared.spawn.Spawned.{Spawned}
 
 abbrev pub start_of : Float → Option Moving → Start
-start_of initial none = record { x = nought; y = nought; variance = initial }
-start_of initial (some v) = record { x = v.x; y = v.y; variance = mul binary64 v.deviation v.deviation }
+start_of initial None = record { x = nought; y = nought; variance = initial }
+start_of initial (Some v) = record { x = v.x; y = v.y; variance = mul binary64 v.deviation v.deviation }
 
 abbrev pub state_from : Vector → Start → Vector
 state_from p v = get_or p 0 nan ∷ get_or p 1 nan ∷ get_or p 2 nan ∷ v.x ∷ v.y ∷ nought ∷ []
 
 -- a filter's outcome by itself
-abbrev pub filter_reply_of : filter.Outcome → Reply (Unit {0})
-filter_reply_of Done = given tt
-filter_reply_of (Refused why) = refused (math.number_of why)
+abbrev pub filter_reply_of : Result (Unit {0}) Refusal → Reply (Unit {0})
+filter_reply_of (Ok _) = given tt
+filter_reply_of (Err why) = refused (math.number_of why)
 
 abbrev pub moving_in : Detection → Begin → Option Moving
-moving_in d b = moving_of (f64_of b.deviation) d.velocity
+moving_in d b = moving_of (b.deviation) d.velocity
 
 abbrev pub track_from : Detection → ℕ → ℕ → Begin → KalmanFilter → Track3D
 track_from d id sightings b f = born_track b.lifecycle b.limit b.sensor b.time id sightings d.class_label f

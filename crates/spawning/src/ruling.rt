@@ -1,17 +1,16 @@
 // What the score and the confirmed tracks say of a detection that no track took.
 ghost use Rattle.std.specs.Prelude.{◌≡◌, replicate};
 ghost use Rattle.matrix.specs.Matrix.{nought};
-ghost use Rattle.settings.specs.Optional.{f64_of, u32_of, set_and};
+ghost use Rattle.settings.specs.Optional.{set_and};
 ghost use Rattle.lists.specs.First.{any};
 ghost use Rattle.detections.specs.Births.{score_below, nearer};
 ghost use Rattle.types.specs.States.{tracks_of};
 ghost use Rattle.calls.specs.Births.{is_confirmed, confirmed_places, low_score, near_confirmed};
 ghost use Rattle.spawning.specs.Ruling.{spot_at, spot_of, laid_out, places_of, suppressed_by, ruling_of};
 
-use detections::{Detection, Score};
+use detections::Detection;
 use lifecycle::TrackLifecycleState;
 use settings::Cartesian3DTrackerConfig;
-use settings::optional::{OptionalF64, OptionalU32};
 use types::MAX_TRACKS;
 use types::track::Track3D;
 use types::tracker::Cartesian3DTracker;
@@ -81,13 +80,9 @@ pub fn confirmed_places(t: Cartesian3DTracker) -> Places
     let nowhere = Spot { position: [0.0; 3] };
     let mut items = [nowhere; MAX_TRACKS];
     let mut count: usize = 0;
-    let mut i: usize = 0;
-    while i < n {
+    for i in 0..n {
         let x = t.tracks[i];
-        let l = x.lifecycle;
-        let state = l.state;
-        i += 1;
-        if is_confirmed(state) {
+        if is_confirmed(x.lifecycle.state) {
             items[count] = spot_of(x);
             count += 1;
         }
@@ -100,50 +95,48 @@ fn is_near(p: Places, position: [f64; 3], radius: f64) -> bool
     ensures { result ≡ any (λ q. nearer q position radius) (places_of p) }
 {
     let n = tables::taken(p.count, MAX_TRACKS);
-    let mut i: usize = 0;
-    while i < n {
+    for i in 0..n {
         let x = p.items[i];
         let place = x.position;
         if detections::births::is_nearer(place, position, radius) {
             return true;
         }
-        i += 1;
     }
     false
 }
 
 // Whether a score is below a threshold that is set.
-fn is_low(score: Score, threshold: OptionalF64) -> bool
-    ensures { result ≡ set_and (score_below score) (f64_of threshold) }
+fn is_low(score: Option<f64>, threshold: Option<f64>) -> bool
+    ensures { result ≡ set_and (score_below score) (threshold) }
 {
     match threshold {
-        OptionalF64::None => false,
-        OptionalF64::Some(t) => detections::births::is_score_below(score, t),
+        None => false,
+        Some(t) => detections::births::is_score_below(score, t),
     }
 }
 
 // Whether a place is nearer than a birth distance that is set.
-fn is_suppressed(p: Places, position: [f64; 3], least: OptionalF64) -> bool
-    ensures { result ≡ set_and (λ x. any (λ q. nearer q position x) (places_of p)) (f64_of least) }
+fn is_suppressed(p: Places, position: [f64; 3], least: Option<f64>) -> bool
+    ensures { result ≡ set_and (λ x. any (λ q. nearer q position x) (places_of p)) (least) }
 {
     match least {
-        OptionalF64::None => false,
-        OptionalF64::Some(radius) => is_near(p, position, radius),
+        None => false,
+        Some(radius) => is_near(p, position, radius),
     }
 }
 
 // A detection near a confirmed track is counted where the settings ask for persistence.
-fn suppress(persistence: OptionalU32) -> Ruling
-    ensures { result ≡ suppressed_by (u32_of persistence) }
+fn suppress(persistence: Option<u32>) -> Ruling
+    ensures { result ≡ suppressed_by (persistence) }
 {
     match persistence {
-        OptionalU32::None => Ruling::Passed,
-        OptionalU32::Some(required) => Ruling::Counted(required),
+        None => Ruling::Passed,
+        Some(required) => Ruling::Counted(required),
     }
 }
 
 pub fn rule(d: Detection, places: Places, config: Cartesian3DTrackerConfig) -> Ruling
-    ensures { result ≡ ruling_of (low_score config d) (near_confirmed config (places_of places) d) (u32_of config.birth_persistence) }
+    ensures { result ≡ ruling_of (low_score config d) (near_confirmed config (places_of places) d) (config.birth_persistence) }
 {
     let score = d.score;
     let threshold = config.new_track_score_threshold;

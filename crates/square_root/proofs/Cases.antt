@@ -1,9 +1,9 @@
 -- What the program's tests tell of a value. Assumes nothing.
-use Rattle.std.proofs.Common.{◌≡◌, ℕ, zero, suc, ◌*◌, ◌/◌, ◌^◌, Bool, true, false, T, ℤ, sym, refl, ap, ◌∙◌, subst, arith, ltb-true}
+use Rattle.std.specs.Prelude.{None, Some}
+use Rattle.std.proofs.Common.{◌≡◌, ℕ, zero, suc, ◌*◌, true, false, T, ℤ, sym, refl, ◌∙◌, arith, ltb-true}
 use lib.Ieee.{Float, nan, inf, fin, binary64, up, down, lt, eq, of_bits}
 use lib.Ieee.Positive.{positive}
 use Rattle.number.specs.Reply.{refused, given}
-use Rattle.square_root.specs.declared.SquareRoot.TheVariants.{Value, Refused}
 use Rattle.square_root.specs.Root.{root_reply, RootAnswer}
 use Rattle.number.proofs.Zeros.{impossible, none, zero_side, zero_equal, not_zero, positive_above}
 
@@ -22,7 +22,7 @@ when_positive P f (fin true m e) a b = impossible a
 when_positive P f (fin false zero e) a b = absurd (omega (arith, ltb-true (0 * 1 * down e) (zero * up e * 1) a, zero_side e, none e))
 when_positive P f (fin false (suc m) e) a b = f m e
 
-pub when_infinite : (x : Float) → lt zero_f x ≡ true → lt x inf_f ≡ false → RootAnswer x (Value x)
+pub when_infinite : (x : Float) → lt zero_f x ≡ true → lt x inf_f ≡ false → RootAnswer x (Some x)
 unfolding lt of_bits root_reply
 when_infinite nan a b = impossible a
 when_infinite (inf true) a b = impossible a
@@ -30,7 +30,7 @@ when_infinite (inf false) a b = record { is = refl; nearest = λ v p e. absurd p
 when_infinite (fin true m e) a b = impossible a
 when_infinite (fin false m e) a b = impossible (sym b)
 
-pub when_zero : (x : Float) → eq x zero_f ≡ true → RootAnswer x (Value x)
+pub when_zero : (x : Float) → eq x zero_f ≡ true → RootAnswer x (Some x)
 unfolding eq of_bits root_reply
 when_zero nan a = impossible a
 when_zero (inf s) a = impossible a
@@ -38,7 +38,7 @@ when_zero (fin true zero e) a = record { is = refl; nearest = λ v p e. absurd p
 when_zero (fin false zero e) a = record { is = refl; nearest = λ v p e. absurd p }
 when_zero (fin s (suc m) e) a = not_zero s m e a
 
-pub when_refused : (x : Float) → lt zero_f x ≡ false → eq x zero_f ≡ false → RootAnswer x Refused
+pub when_refused : (x : Float) → lt zero_f x ≡ false → eq x zero_f ≡ false → RootAnswer x None
 unfolding lt eq of_bits root_reply
 when_refused nan a b = record { is = refl; nearest = λ v p e. absurd p }
 when_refused (inf true) a b = record { is = refl; nearest = λ v p e. absurd p }

@@ -1,12 +1,11 @@
 -- The bit pattern of a finite value above zero, and what the pattern of a root stands for. Assumes nothing.
-use Rattle.std.proofs.Common.{◌≡◌, ℕ, zero, suc, ◌+◌, ◌-◌, ◌*◌, ◌/◌, ◌%◌, ◌^◌, ◌<◌, ◌≤◌, Bool, true, false, cond, not, T, eqb, leb, ℤ, sym, refl, ap, ◌∙◌, subst, true≢false, lt_irrefl, zero-lt-suc, mul_assoc, mul_comm, mul-pos, lt_of_not-le, zero-mul, mul-one, mul_right_comm, mul-div_cancel, arith, eqb→eq, leb→le, pow_pos, pow-add, ne_eqb, leb-false}
-use lib.Dec.{nleb→lt}
+use Rattle.std.proofs.Common.{◌≡◌, ℕ, zero, suc, ◌+◌, ◌*◌, ◌/◌, ◌%◌, ◌^◌, ◌<◌, ◌≤◌, Bool, true, false, cond, eqb, leb, ℤ, sym, refl, ap, ◌∙◌, subst, true≢false, lt_irrefl, zero-lt-suc, mul_assoc, mul-pos, lt_of_not-le, zero-mul, mul-one, mul_right_comm, mul-div_cancel, arith, pow_pos, pow-add, ne_eqb, leb-false}
 use borrow.Author.Tests.{lt-leb, eqb-false}
 use lib.Ieee.{Float, nan, inf, fin, binary64, up, down, odd, of_fields, of_bits}
 use lib.Ieee.Exact.{HasValue, odd_sign}
 use lib.Ieee.Fits.{up_pos, down_pos}
 use lib.Ieee.Scale.{finite}
-use Rattle.square_root.specs.RootSteps.{Rounded, PatternOf, digits, power, weight_of, weight}
+use Rattle.square_root.specs.RootSteps.{PatternOf, digits, power, weight_of, weight}
 
 -- the value of a field and digits, in units of 2 ^ -1074
 abbrev units_of : ℕ → ℕ → ℕ

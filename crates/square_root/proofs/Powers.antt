@@ -1,6 +1,8 @@
 -- From the root of a whole number to the pattern of a root. Assumes nothing.
-use Rattle.std.proofs.Common.{◌≡◌, ℕ, zero, suc, ◌+◌, ◌-◌, ◌*◌, ◌/◌, ◌%◌, ◌^◌, ◌<◌, ◌≤◌, sym, refl, ap, ◌∙◌, subst, le_trans, le_of_eq, lt_of_lt_of_le, mul-le-mul_right, mul_assoc, mul_comm, add-mul, mul-lt-mul_of_pos_right, mul-pos, lt_of_not-le, arith, pow_pos, pow_mono, pow-add}
-use Rattle.square_root.specs.RootSteps.{Nearest, Rounded, digits, power, PatternOf, weight_of}
+use Rattle.std.proofs.Common.{◌≡◌, ℕ, zero, suc, ◌+◌, ◌-◌, ◌*◌, ◌/◌, ◌%◌, ◌^◌, ◌<◌, ◌≤◌, sym, refl, ap, ◌∙◌, subst, mul-le-mul_right, mul_assoc, mul-lt-mul_of_pos_right, lt_of_not-le, arith, pow_pos, pow_mono, pow-add}
+use Rattle.std.proofs.lemmas.Nat.{leading_top}
+use Rattle.std.specs.Int.Count.{count_leading_zeros}
+use Rattle.square_root.specs.RootSteps.{Nearest, Rounded, digits, power, PatternOf, weight_of, Normal}
 use Rattle.square_root.proofs.Squares.{at_least, at_most}
 
 -- 2 ^ e is 2 ^ k times a square, for an e that is k and an even number
@@ -55,17 +57,23 @@ module _ (m e q : ℕ) (least : 2 ^ 52 ≤ m) (most : m < 2 ^ 53) (lo : 52 ≤ e
       let p : j ≡ power r = omega (arith, q_least, q_most) in
       record { normal = omega (arith, q_least); rounded = subst (λ (x : ℕ). Rounded (m * 2 ^ e) x (power r)) d (subst (λ (x : ℕ). Rounded (m * 2 ^ e) q x) p rounded) }
 
--- ---- a number doubled until it has 53 digits
-pub double : (t z m : ℕ) → m ≡ t * 2 ^ z → m * 2 ≡ t * 2 ^ (z + 1)
-double t z m e = ap (λ (x : ℕ). x * 2) e ∙ mul_assoc t (2 ^ z) 2 ∙ ap (λ (x : ℕ). t * x) (sym (pow-add 2 z 1))
+-- ---- a number shifted until it has 53 digits
+pub record Shifted (t : ℕ) : Type 0 where
+  pub room : 11 ≤ count_leading_zeros 64 t
+  pub normal : Normal t (t * 2 ^ (count_leading_zeros 64 t - 11) % 2 ^ 64) (count_leading_zeros 64 t - 11)
 
-pub few : (t z m : ℕ) → 0 < t → m ≡ t * 2 ^ z → m < 2 ^ 52 → z < 52
-few t z m p e l =
-    lt_of_not-le
-    (λ (h : 52 ≤ z).
-    let a : 2 ^ 52 ≤ 2 ^ z = pow_mono h in
-    let b : 1 * 2 ^ z ≤ t * 2 ^ z = mul-le-mul_right (2 ^ z) p in
-    omega arith)
+pub shifted : (t : ℕ) → 0 < t → t < 2 ^ 52 → Shifted t
+shifted t p l =
+    let top = leading_top 64 t p (omega arith) in
+    let j = top.0 in
+    let z = count_leading_zeros 64 t - 11 in
+    let few : j < 52 = lt_of_not-le (λ (h : 52 ≤ j). let a : 2 ^ 52 ≤ 2 ^ j = pow_mono h in omega (arith, top.2)) in
+    let e : j + z ≡ 52 = omega (arith, top.1) in
+    let f : suc j + z ≡ 53 = omega arith in
+    let least : 2 ^ 52 ≤ t * 2 ^ z = subst (λ (k : ℕ). 2 ^ k ≤ t * 2 ^ z) e (rw (pow-add 2 j z) (mul-le-mul_right (2 ^ z) top.2)) in
+    let most : t * 2 ^ z < 2 ^ 53 = subst (λ (k : ℕ). t * 2 ^ z < 2 ^ k) f (rw (pow-add 2 (suc j) z) (mul-lt-mul_of_pos_right top.3 (pow_pos z))) in
+    let whole : t * 2 ^ z % 2 ^ 64 ≡ t * 2 ^ z = omega arith in
+    record { room = omega (arith, top.1); normal = record { is = whole; least = omega arith; most = omega arith; few = omega arith } }
 
 pub undo : (t z m : ℕ) → m ≡ t * 2 ^ z → z ≤ 52 → m * 2 ^ (1074 - z) ≡ t * 2 ^ 1074
 undo t z m e l =

@@ -1,5 +1,5 @@
 -- Squares of whole numbers, and the number nearest a root. Assumes nothing.
-use Rattle.std.proofs.Common.{◌≡◌, ℕ, suc, ◌+◌, ◌-◌, ◌*◌, ◌/◌, ◌%◌, ◌^◌, ◌<◌, ◌≤◌, Bool, true, false, cond, ltb, sym, refl, ap, ◌∙◌, subst, lt_of_le_of_lt, le_of_lt, mul-le-mul_right, mul_assoc, mul_comm, add-mul, mul-le-mul_left, one-mul, lt_of_not-le, mul-one, mul-add, arith, shl_lt, ltb-false, ltb-true}
+use Rattle.std.proofs.Common.{◌≡◌, ℕ, ◌+◌, ◌-◌, ◌*◌, ◌/◌, ◌%◌, ◌^◌, ◌<◌, ◌≤◌, Bool, true, false, cond, ltb, sym, refl, ap, ◌∙◌, subst, lt_of_le_of_lt, le_of_lt, mul-le-mul_right, mul_assoc, mul_comm, add-mul, mul-le-mul_left, one-mul, lt_of_not-le, mul-one, mul-add, arith, shl_lt, ltb-false, ltb-true}
 use Rattle.square_root.specs.RootSteps.{Squared, Nearest}
 
 pub prod_lt : (j k : ℕ) {a b : ℕ} → a < 2 ^ j → b < 2 ^ k → a * b < 2 ^ (j + k)
@@ -98,6 +98,13 @@ module _ (n q d : ℕ) (is : d + q * q ≡ n + 2 ^ 54 + 3 * q) (z : 0 < q) where
       go true false e f = at q (q - 1 + 1 + 0) (omega arith) (same (ltb-true _ _ e) (ltb-false _ _ f))
       go false true e f = absurd (omega (arith, ltb-false (2 ^ 54 + 2 * q) d e, ltb-true (2 ^ 54 + 4 * q) d f))
       go false false e f = at (q - 1) (q - 1 + 0 + 0) (omega arith) (lower x (ltb-false _ _ e))
+
+-- ---- a - b, wrapped at 2 ^ 64
+abbrev pub less : ℕ → ℕ → ℕ
+less a b = (a + (2 ^ 64 - b)) % 2 ^ 64
+
+pub wraps_back : (a b : ℕ) → a < 2 ^ 64 → b ≤ 2 ^ 64 → (less a b + b) % 2 ^ 64 ≡ a
+wraps_back a b h k = omega arith
 
 -- ---- a guess that is right, by its digits
 unwrapped : (x y z : ℕ) → x + y < 2 ^ 64 → (x + y) % 2 ^ 64 ≡ z → x + y ≡ z

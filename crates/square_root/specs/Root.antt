@@ -1,13 +1,11 @@
 -- The square root as IEEE 754 has it: the exact root, rounded once to the nearest binary64.
 -- 01, Number and root: "A root is the binary64 nearest the exact square root, stated over squared whole numbers. Root of ±0 is itself, of +infinity +infinity." 01, Root: "9 for NaN or below zero."
-use Rattle.std.specs.Prelude.{◌≡◌, ℕ, zero, suc, ◌+◌, ◌-◌, ◌*◌, ◌/◌, ◌^◌, ◌<◌, ◌≤◌, Bool, true, false, cond, T, ◌==◌, nat_lt, Float}
+use Rattle.std.specs.Prelude.{◌≡◌, ℕ, zero, suc, ◌+◌, ◌-◌, ◌*◌, ◌/◌, ◌^◌, ◌<◌, ◌≤◌, true, false, cond, T, ◌==◌, nat_lt, Float, None, Option, Some}
 use Rattle.std.specs.Float.{nan, inf, fin}
 use Rattle.std.specs.Float.Ieee.{up, down, size, odd}
 use Rattle.std.specs.Float.Ieee.Exact.{HasValue}
 use Rattle.std.specs.Float.Ieee.Positive.{positive}
 use Rattle.number.specs.Reply.{Reply, refused, given}
-use Rattle.square_root.specs.declared.SquareRoot.{SquareRoot}
-use Rattle.square_root.specs.declared.SquareRoot.TheVariants.{Value, Refused}
 
 -- ---- what a nearest root is
 
@@ -54,10 +52,10 @@ root_reply (fin false (suc m) e) = given (root_of (suc m * up e * 2 ^ 2148 / dow
 
 -- ---- the contract
 
-abbrev pub reply_of_root : SquareRoot → Reply Float
-reply_of_root (Value v) = given v
-reply_of_root Refused = refused 9
+abbrev pub reply_of_root : Option Float → Reply Float
+reply_of_root (Some v) = given v
+reply_of_root None = refused 9
 
-pub record RootAnswer (x : Float) (r : SquareRoot) : Type 0 where
+pub record RootAnswer (x : Float) (r : Option Float) : Type 0 where
   pub is : reply_of_root r ≡ root_reply x
   pub nearest : (v : Float) → T (positive x) → root_reply x ≡ given v → NearestRoot x v

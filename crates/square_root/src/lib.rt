@@ -5,13 +5,6 @@ ghost use Rattle.std.specs.Prelude.{◌≡◌, ◌+◌, ◌-◌, ◌*◌, ◌%�
 ghost use Rattle.square_root.specs.Root.{RootAnswer};
 ghost use Rattle.square_root.specs.RootSteps.{Squared, Nearest, Past, PatternOf, ValueOf, Normal, UnitsOf, weight};
 
-// What `root` answers: the root, or 01's 9.
-#[derive(Clone, Copy)]
-pub enum SquareRoot {
-    Value(f64),
-    Refused,
-}
-
 // q * q, as whole * 2^52 + rest.
 #[derive(Clone, Copy)]
 struct Parts {
@@ -255,6 +248,7 @@ fn bisect(a: u64) -> u64
 {
     let mut least: u64 = 0;
     let mut end: u64 = 9007199254740992;
+    // A bisection counts no index: it goes on until the two ends are neighbours.
     while 1 < end - least {
         let p = least + (end - least) / 2;
         let s = square(p);
@@ -271,7 +265,7 @@ fn bisect(a: u64) -> u64
 fn past(d: u64, limit: u64) -> u64
     ensures { Past d limit result }
 {
-    if limit < d { 1 } else { 0 }
+    u64::from(limit < d)
 }
 
 // The nearest whole number to the root of a * 2^52: q or a neighbour of it, where the guess q is that good.
@@ -280,11 +274,11 @@ fn settle(a: u64, q: u64) -> u64
     ensures { Nearest (a * 2 ^ 52) result }
 {
     let s = square(q);
-    let t = std::num::wrapping_sub_u64(a + 4, s.whole);
+    let t = (a + 4).wrapping_sub(s.whole);
     if t < 16 {
         // a * 2^52 - q * q, moved up by 2^54 + 3 * q so that it stays above 0
         let d = t * 4503599627370496 + 3 * q - s.rest;
-        if std::num::wrapping_sub_u64(d, 18014398509481987) < 6 * q {
+        if d.wrapping_sub(18014398509481987) < 6 * q {
             return q - 1 + past(d, 18014398509481984 + 2 * q) + past(d, 18014398509481984 + 4 * q);
         }
     }
@@ -308,13 +302,11 @@ fn normalize(t: u64) -> Scaled
     requires { (0 < t) × (t < 2 ^ 52) }
     ensures { Normal t result.digits result.doubled }
 {
-    let mut digits = t;
-    let mut doubled: u64 = 0;
-    while digits < 4503599627370496 {
-        digits = digits * 2;
-        doubled += 1;
+    let doubled = t.leading_zeros() - 11;
+    Scaled {
+        digits: t << doubled,
+        doubled: u64::from(doubled),
     }
-    Scaled { digits, doubled }
 }
 
 // The value with the pattern b, which is finite and above zero, in units of 2^-2148.
@@ -364,12 +356,12 @@ fn is_nearest(a: u64, q: u64) -> bool
     }
     let high = q / 67108864;
     let low = q % 67108864;
-    let t = std::num::wrapping_sub_u64(a, high * high);
+    let t = a.wrapping_sub(high * high);
     if t < 1073741824 {
         // moved up by 2^28 so that it stays above 0
-        let u = std::num::wrapping_sub_u64(t * 67108864 + 268435456, 2 * (high * low));
+        let u = (t * 67108864 + 268435456).wrapping_sub(2 * (high * low));
         if u < 1073741824 {
-            std::num::wrapping_sub_u64(u * 67108864 + q, 18014398509481985 + low * low) < 2 * q
+            (u * 67108864 + q).wrapping_sub(18014398509481985 + low * low) < 2 * q
         } else {
             false
         }
@@ -411,18 +403,18 @@ fn finite_root(b: u64) -> f64
 }
 
 // The square root of x, rounded once; refused for a NaN and below zero.
-pub fn root(x: f64) -> SquareRoot
+pub fn root(x: f64) -> Option<f64>
     ensures { RootAnswer x result }
 {
     if x > 0.0 {
-        if x < f64::from_bits(0x7ff0_0000_0000_0000) {
-            SquareRoot::Value(finite_root(f64::to_bits(x)))
+        if x < f64::INFINITY {
+            Some(finite_root(f64::to_bits(x)))
         } else {
-            SquareRoot::Value(x)
+            Some(x)
         }
     } else if x == 0.0 {
-        SquareRoot::Value(x)
+        Some(x)
     } else {
-        SquareRoot::Refused
+        None
     }
 }

@@ -1,4 +1,5 @@
 -- The last stages of a batch: the births, the sensor's sequence and the report, put together. Assumes nothing.
+use Rattle.std.specs.Prelude.{Err, Ok}
 use mathlib.Core.Path.{◌≡◌, refl, sym, ap, subst, ◌∙◌}
 use mathlib.Core.Bool.{Bool, true, false, cond}
 use mathlib.Core.List.{List, [], ◌∷◌}
@@ -12,7 +13,6 @@ use Rattle.lists.specs.Lay.{lay}
 use Rattle.types.specs.declared.batch.ObservationBatch3D.{ObservationBatch3D}
 use Rattle.types.specs.declared.batch.BatchReport3D.{BatchReport3D}
 use Rattle.types.specs.declared.refusal.Refusal.{Refusal}
-use Rattle.types.specs.declared.refusal.Outcome.TheVariants as outcome
 use Rattle.types.specs.declared.tracker.BirthCandidate.{BirthCandidate}
 use Rattle.types.specs.declared.tracker.SensorSequence.{SensorSequence}
 use Rattle.types.specs.declared.tracker.Cartesian3DTracker.{Cartesian3DTracker}
@@ -94,14 +94,14 @@ module _ (u : Cartesian3DTracker) (b : ObservationBatch3D) (pairs : List Pair) (
       go (given l) = refl
 
   module _ (w : Walked) (walks : Walks timed w born) where
-    pub finish_refused : (why : Refusal) → w.outcome ≡ outcome.Refused why → (r : Reported) → r ≡ refused_with u why → Finishes u b m r
+    pub finish_refused : (why : Refusal) → w.outcome ≡ Err why → (r : Reported) → r ≡ refused_with u why → Finishes u b m r
     finish_refused why e r q =
-        let a : Answers timed w.tracker (outcome.Refused why) (and_then born (λ x. given x.state)) = subst (λ o. Answers timed w.tracker o (and_then born (λ x. given x.state))) e walks.answers in
+        let a : Answers timed w.tracker (Err why) (and_then born (λ x. given x.state)) = subst (λ o. Answers timed w.tracker o (and_then born (λ x. given x.state))) e walks.answers in
         let n : born ≡ refused (number_of why) = refused_before born (λ (x : Births). x.state) (number_of why) (refused_same timed w.tracker why _ a).0 in
         let f : refused (number_of why) ≡ finished u.config (state_of u) b m = sym (finished_as ∙ ap (λ (x : Reply Births). and_then x (λ y. given (done_with b m y))) n) in
         subst (Finishes u b m) (sym q) (record { tracker = refuses u why _ (ap state_given f); reported = ap report_after f })
 
-    module _ (done : w.outcome ≡ outcome.Done) where
+    module _ (done : w.outcome ≡ Ok tt) where
       -- the births that were carried out
       record Bore : Type 0 where
         all : Births
@@ -111,7 +111,7 @@ module _ (u : Cartesian3DTracker) (b : ObservationBatch3D) (pairs : List Pair) (
       bore : Bore
       bore = go born (subst (λ o. Answers timed w.tracker o (and_then born (λ x. given x.state))) done walks.answers) refl
         where
-          go : (r : Reply Births) → Answers timed w.tracker outcome.Done (and_then r (λ x. given x.state)) → born ≡ r → Bore
+          go : (r : Reply Births) → Answers timed w.tracker (Ok tt) (and_then r (λ x. given x.state)) → born ≡ r → Bore
           go (refused n) a e = never_given n tt (sym a.is)
           go (given y) a e = record { all = y; bears = e; whole = a.whole }
 
@@ -174,6 +174,6 @@ module _ (u : Cartesian3DTracker) (b : ObservationBatch3D) (pairs : List Pair) (
 
       pub finish_done : (x : Cartesian3DTracker) → b.count ≤ 64 → room_for 32 b.sensor_id (sequences_of u) ≡ true → ids ≡ lay (take k ids) (replicate 64 0) → k ≤ 64
           → length pairs ≡ 64 → length b.observations ≡ 64 → length ids ≡ 64 → x ≡ over_sequences w.tracker (noted_in 32 b.sensor_id b.sequence (sequences_of w.tracker))
-          → Finishes u b m (record { outcome = outcome.Done; tracker = x; report = report })
+          → Finishes u b m (record { outcome = Ok tt; tracker = x; report = report })
       finish_done x few room e sk sp sd si ex =
           record { tracker = carries_out u x done_all.state _ (laid x room ex) (ap state_given finished_given); reported = reported few sp sd si sk e ∙ ap report_after finished_given }

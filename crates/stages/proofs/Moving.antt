@@ -1,4 +1,5 @@
 -- The tracks of a tracker at a time: what the move of all of them leaves. Assumes nothing.
+use Rattle.std.specs.Prelude.{Err, Ok}
 use mathlib.Core.Path.{◌≡◌, sym, ap, ◌∙◌}
 use mathlib.Core.Bool.{false}
 use mathlib.Core.List.{List, map}
@@ -10,7 +11,6 @@ use Rattle.number.specs.Reply.{Reply, refused, given, and_then}
 use Rattle.types.specs.declared.track.Track3D.{Track3D}
 use Rattle.types.specs.declared.tracker.Cartesian3DTracker.{Cartesian3DTracker}
 use Rattle.types.specs.declared.refusal.Refusal.{Refusal}
-use Rattle.types.specs.declared.refusal.Outcome.TheVariants as outcome
 use Rattle.types.specs.Refusals.{number_of}
 use Rattle.types.specs.States.{State, state_of, tracks_of, sequences_of, candidates_of, state_with, over_tracks, over_state}
 use Rattle.types.specs.Track.{with_mark}
@@ -40,7 +40,7 @@ module _ (t : Cartesian3DTracker) (now : ℤ) where
       λ i. and_then (predicted_tracks (c i) now (l i)) (λ ts. given (over_tracks v ts))
 
   module _ (v : Cartesian3DTracker) (s : TrackerStep) (settled : v ≡ over_state t (state_of t)) (a : TrackerAnswers v s (moved_tracks v now)) where
-    pub move_refused : (why : Refusal) → s.outcome ≡ outcome.Refused why → moves ≡ refused (number_of why)
+    pub move_refused : (why : Refusal) → s.outcome ≡ Err why → moves ≡ refused (number_of why)
     move_refused why e = refused_before moves (over_tracks v) (number_of why) (sym (moved_settled v settled) ∙ call_refuses a why e)
 
     -- the tracks that are left, in the tracker that has seen this time
@@ -49,7 +49,7 @@ module _ (t : Cartesian3DTracker) (now : ℤ) where
       pub given_they : moves ≡ given tracks
       pub whole : s.tracker ≡ over_state t (state_with tracks (sequences_of t) (candidates_of t) (state_of t))
 
-    pub move_given : s.outcome ≡ outcome.Done → Moved
+    pub move_given : s.outcome ≡ Ok tt → Moved
     move_given e =
         let b = bound moves (λ ts. given (over_tracks v ts)) s.tracker (sym (moved_settled v settled) ∙ call_given a e) in
         record { tracks = b.0; given_they = b.1; whole = sym (given_same _ _ b.2) ∙ ap (λ (u : Cartesian3DTracker). over_tracks u b.0) settled ∙ tracks_anew t b.0 }

@@ -1,19 +1,16 @@
 -- The pairing and the updates of a batch, put together. Assumes nothing.
+use Rattle.std.specs.Prelude.{Err, Ok, Result, Option}
 use mathlib.Core.Path.{◌≡◌, refl, sym, ap, subst, ◌∙◌}
 use mathlib.Core.List.{List}
-use mathlib.Core.Option.{Option}
 use Prim.Native.Nat.{ℕ, ◌≤◌}
 use native.Mathlib.Omega.{arith}
 use lib.ListN.{length, take, length-take}
 use Rattle.number.specs.Reply.{Reply, refused, given, and_then, left_in}
 use lib.IntN.{ℤ}
-use Rattle.settings.specs.Optional.{i64_of}
 use Rattle.settings.specs.declared.Cartesian3DTrackerConfig.{Cartesian3DTrackerConfig}
 use Rattle.detections.specs.declared.Detection.{Detection}
 use Rattle.types.specs.declared.batch.ObservationBatch3D.{ObservationBatch3D}
 use Rattle.types.specs.declared.refusal.Refusal.{Refusal}
-use Rattle.types.specs.declared.refusal.Outcome.{Outcome}
-use Rattle.types.specs.declared.refusal.Outcome.TheVariants as outcome
 use Rattle.types.specs.declared.track.Track3D.{Track3D}
 use Rattle.types.specs.declared.tracker.Cartesian3DTracker.{Cartesian3DTracker}
 use Rattle.types.specs.Refusals.{number_of, reply_of, answered}
@@ -39,10 +36,10 @@ use Rattle.stages.specs.Stages.{seen_in, takers_in, match_reply, MatchAnswers}
 
 -- Each detection that a track took has passed its check, so that the updates by the mates, which ask for no check, are those of calls.
 module _ (c : Cartesian3DTrackerConfig) (sensor : ℕ) (now : ℤ) (ts : List Track3D) (few : length ts ≤ 64) (seen : List Detection) (m : ℕ) (sd : length seen ≡ 64) (r : Paired)
-    (a : Matches (pair_config c) ts (take m seen) (takers_for (pair_config c) (i64_of c.recent_track_window_ns) now ts (take m seen)) r)
-    (passed : detections_reply (take m seen) ≡ given tt) (done : r.outcome ≡ outcome.Done) where
+    (a : Matches (pair_config c) ts (take m seen) (takers_for (pair_config c) (c.recent_track_window_ns) now ts (take m seen)) r)
+    (passed : detections_reply (take m seen) ≡ given tt) (done : r.outcome ≡ Ok tt) where
   abbrev reply : Reply (List (Option ℕ))
-  reply = takers_for (pair_config c) (i64_of c.recent_track_window_ns) now ts (take m seen)
+  reply = takers_for (pair_config c) (c.recent_track_window_ns) now ts (take m seen)
 
   pub updates_by_mates : each_at (λ i x. updated_or_not (update_of c sensor now) x (mate_of r.mates seen i)) 0 ts ≡ updates c sensor now (mate_of r.mates seen) ts
   unfolding updates
@@ -55,7 +52,7 @@ module _ (c : Cartesian3DTrackerConfig) (sensor : ℕ) (now : ℤ) (ts : List Tr
           → each_at (λ i x. updated_or_not (update_of c sensor now) x (mate_of r.mates seen i)) 0 ts ≡ each_at (λ i x. updated_by c sensor now x (mate_of r.mates seen i)) 0 ts
       go (refused k) w = never_given k tt (sym (is (refused k) w))
       go (given t) w =
-          let long = takers_for_long (pair_config c) (i64_of c.recent_track_window_ns) now ts (take m seen) t w in
+          let long = takers_for_long (pair_config c) (c.recent_track_window_ns) now ts (take m seen) t w in
           let k = (subst (λ (x : Reply (List (Option ℕ))). Matches (pair_config c) ts (take m seen) x r) w a).mates in
           each_by_mates t r.mates seen m k sd long (updated_or_not (update_of c sensor now)) ts few
           ∙ (unfold updates in updates_checked c sensor now (taken_by t (take m seen)) (λ i d e. chosen_passed t (take m seen) i d passed e) ts)
@@ -64,11 +61,11 @@ module _ (c : Cartesian3DTrackerConfig) (sensor : ℕ) (now : ℤ) (ts : List Tr
 module _ (u : Cartesian3DTracker) (b : ObservationBatch3D) (st : length u.tracks ≡ 64) (sd : length b.observations ≡ 64) (r : Paired)
     (a : Matches (pair_config u.config) (tracks_of u) (seen_in b) (takers_in u b) r) where
   -- where the pairing is refused
-  not_paired : (why : Refusal) → r.outcome ≡ outcome.Refused why → match_reply u b ≡ refused (number_of why)
+  not_paired : (why : Refusal) → r.outcome ≡ Err why → match_reply u b ≡ refused (number_of why)
   unfolding tracks_of
   not_paired why e = stage_refused u.config b.sensor_id b.timestamp u.tracks u.track_count b.observations b.count st sd r a why e
 
-  pub pairing_refused : (why : Refusal) → r.outcome ≡ outcome.Refused why → MatchAnswers u b (record { outcome = outcome.Refused why; tracker = u; paired = r })
+  pub pairing_refused : (why : Refusal) → r.outcome ≡ Err why → MatchAnswers u b (record { outcome = Err why; tracker = u; paired = r })
   pairing_refused why e =
       let n = not_paired why e in
       record { is = sym n; whole = ap (λ (x : Reply Matched). left_in (and_then x (λ m. given (over_tracks u m.tracks))) u) (sym n); pairing = a }
@@ -86,7 +83,7 @@ module _ (u : Cartesian3DTracker) (b : ObservationBatch3D) (st : length u.tracks
   unfolding tracks_of
   few = let q = length-take u.track_count u.tracks in omega arith
 
-  module _ (passed : detections_reply (seen_in b) ≡ given tt) (done : r.outcome ≡ outcome.Done) where
+  module _ (passed : detections_reply (seen_in b) ≡ given tt) (done : r.outcome ≡ Ok tt) where
     checked : each_at (λ i x. updated_or_not how x (took i)) 0 (tracks_of u) ≡ updating
     checked = updates_by_mates u.config b.sensor_id b.timestamp (tracks_of u) few b.observations b.count sd r a passed done
 
@@ -113,8 +110,8 @@ module _ (u : Cartesian3DTracker) (b : ObservationBatch3D) (st : length u.tracks
         through (refused n) = refl
         through (given us) = refl
 
-        is_by : (x : Reply (List Track3D)) (o : Outcome) (v : Cartesian3DTracker) → answered o v ≡ and_then x (λ ts. given (over_tracks u ts)) → answered o (with_tracks (tracks_of v)) ≡ and_then x (λ us. given (with_tracks us))
-        is_by (refused n) outcome.Done v e = never_given n v (sym e)
-        is_by (refused n) (outcome.Refused why) v e = cc
-        is_by (given us) outcome.Done v e = ap (λ (l : List Track3D). given (with_tracks l)) (ap tracks_of (given_same v (over_tracks u us) e) ∙ tracks_over u us)
-        is_by (given us) (outcome.Refused why) v e = never_given (number_of why) (over_tracks u us) e
+        is_by : (x : Reply (List Track3D)) (o : Result (Unit {0}) Refusal) (v : Cartesian3DTracker) → answered o v ≡ and_then x (λ ts. given (over_tracks u ts)) → answered o (with_tracks (tracks_of v)) ≡ and_then x (λ us. given (with_tracks us))
+        is_by (refused n) (Ok _) v e = never_given n v (sym e)
+        is_by (refused n) (Err why) v e = cc
+        is_by (given us) (Ok _) v e = ap (λ (l : List Track3D). given (with_tracks l)) (ap tracks_of (given_same v (over_tracks u us) e) ∙ tracks_over u us)
+        is_by (given us) (Err why) v e = never_given (number_of why) (over_tracks u us) e

@@ -1,12 +1,9 @@
 -- What the stages of a batch answer, each on the whole tracker.
-use Rattle.std.specs.Prelude.{ℕ, ◌≡◌, false, List, map, ℤ, take}
-use Rattle.std.proofs.Math.Option.{Option}
+use Rattle.std.specs.Prelude.{ℕ, ◌≡◌, false, List, map, ℤ, take, Err, Option}
 use Rattle.number.specs.Reply.{Reply, given, and_then, left_in}
-use Rattle.settings.specs.Optional.{i64_of}
 use Rattle.detections.specs.declared.Detection.{Detection}
 use Rattle.types.specs.declared.batch.ObservationBatch3D.{ObservationBatch3D}
 use Rattle.types.specs.declared.refusal.Refusal.{Refusal}
-use Rattle.types.specs.declared.refusal.Outcome.TheVariants.{Refused}
 use Rattle.types.specs.declared.tracker.Cartesian3DTracker.{Cartesian3DTracker}
 use Rattle.types.specs.declared.track.Track3D.{Track3D}
 use Rattle.types.specs.Track.{with_mark}
@@ -26,7 +23,7 @@ use Rattle.stages.specs.declared.Matching.{Matching}
 use Rattle.stages.specs.declared.Reported.{Reported}
 
 abbrev pub refused_with : Cartesian3DTracker → Refusal → Reported
-refused_with t why = record { outcome = Refused why; tracker = t; report = blank_report }
+refused_with t why = record { outcome = Err why; tracker = t; report = blank_report }
 
 -- the tracker's own state with other tracks
 abbrev pub tracks_in : Cartesian3DTracker → List Track3D → State
@@ -46,7 +43,7 @@ seen_in b = take b.count b.observations
 
 -- who takes which of them, by the tracks as u has them
 abbrev pub takers_in : Cartesian3DTracker → ObservationBatch3D → Reply (List (Option ℕ))
-takers_in u b = takers_for (pair_config u.config) (i64_of u.config.recent_track_window_ns) b.timestamp (tracks_of u) (seen_in b)
+takers_in u b = takers_for (pair_config u.config) (u.config.recent_track_window_ns) b.timestamp (tracks_of u) (seen_in b)
 
 -- stages 4 to 6
 abbrev pub match_reply : Cartesian3DTracker → ObservationBatch3D → Reply Matched

@@ -18,18 +18,15 @@ use detections::pairs::PairConfig;
 use matching::Paired;
 use moving::TrackerStep;
 use settings::Cartesian3DTrackerConfig;
-use settings::optional::OptionalF64;
-use types::batch::{
-    AssociatedTrack, BatchReport3D, ObservationAssociation, ObservationBatch3D, ObservationOutcome,
-};
-use types::refusal::{Outcome, Refusal};
+use types::batch::{BatchReport3D, ObservationAssociation, ObservationBatch3D, ObservationOutcome};
+use types::refusal::Refusal;
 use types::tracker::Cartesian3DTracker;
 use types::{MAX_CANDIDATES, MAX_OBSERVATIONS, MAX_SEQUENCES, MAX_TRACKS};
 
 // Whether a batch was carried out, the tracker after it, and the report, which is blank beside a refusal.
 #[derive(Clone, Copy)]
 pub struct Reported {
-    pub outcome: Outcome,
+    pub outcome: Result<(), Refusal>,
     pub tracker: Cartesian3DTracker,
     pub report: BatchReport3D,
 }
@@ -37,7 +34,7 @@ pub struct Reported {
 // Whether the pairing and the updates were carried out, the tracker after them, and what the pairing tells.
 #[derive(Clone, Copy)]
 pub struct Matching {
-    pub outcome: Outcome,
+    pub outcome: Result<(), Refusal>,
     pub tracker: Cartesian3DTracker,
     pub paired: Paired,
 }
@@ -57,9 +54,9 @@ pub fn blank_report() -> BatchReport3D
 {
     let blank = ObservationAssociation {
         observation_index: 0,
-        track_id: AssociatedTrack::None,
+        track_id: None,
         outcome: ObservationOutcome::Unmatched,
-        cost: OptionalF64::None,
+        cost: None,
     };
     let associations = [blank; MAX_OBSERVATIONS];
     let unmatched_track_ids = [0u64; MAX_TRACKS];
@@ -78,7 +75,7 @@ pub fn refuse(t: Cartesian3DTracker, why: Refusal) -> Reported
     ensures { result ≡ refused_with t why }
 {
     Reported {
-        outcome: Outcome::Refused(why),
+        outcome: Err(why),
         tracker: t,
         report: blank_report(),
     }
@@ -92,12 +89,12 @@ pub fn prepare(t: Cartesian3DTracker, time: i64) -> TrackerStep
     let outcome = step.outcome;
     let moved = step.tracker;
     match outcome {
-        Outcome::Refused(why) => TrackerStep {
-            outcome: Outcome::Refused(why),
+        Err(why) => TrackerStep {
+            outcome: Err(why),
             tracker: t,
         },
-        Outcome::Done => TrackerStep {
-            outcome: Outcome::Done,
+        Ok(()) => TrackerStep {
+            outcome: Ok(()),
             tracker: tables::tracks::clear_marks(moved),
         },
     }
@@ -139,12 +136,12 @@ pub fn match_tracks(u: Cartesian3DTracker, batch: ObservationBatch3D) -> Matchin
     let outcome = paired.outcome;
     let mates = paired.mates;
     match outcome {
-        Outcome::Refused(why) => Matching {
-            outcome: Outcome::Refused(why),
+        Err(why) => Matching {
+            outcome: Err(why),
             tracker: u,
             paired,
         },
-        Outcome::Done => {
+        Ok(()) => {
             let update = updating::update_of(config, batch.sensor_id, batch.timestamp);
             let step = updating::update_tracks(u, observations, mates, update);
             let after = step.outcome;
@@ -180,8 +177,8 @@ pub fn finish(
     let tracker = walked.tracker;
     let associations = walked.associations;
     match outcome {
-        Outcome::Refused(why) => refuse(u, why),
-        Outcome::Done => {
+        Err(why) => refuse(u, why),
+        Ok(()) => {
             let report = BatchReport3D {
                 timestamp: time,
                 sensor_id: sensor,
@@ -191,7 +188,7 @@ pub fn finish(
                 unmatched_track_count: unmatched_count,
             };
             Reported {
-                outcome: Outcome::Done,
+                outcome: Ok(()),
                 tracker: tables::sequences::note_sequence(tracker, sensor, batch.sequence),
                 report,
             }

@@ -1,5 +1,5 @@
 -- A matrix that equals its transpose counts as symmetric: no difference in it is larger than +0, and the tolerance is never less. Assumes nothing.
-use mathlib.Core.Path.{◌≡◌, refl, sym, ap, ap₂, ◌∙◌, subst}
+use mathlib.Core.Path.{◌≡◌, refl, sym, ap, ◌∙◌, subst}
 use mathlib.Core.Logic.{◌⊎◌, inl, inr}
 use mathlib.Core.Bool.{Bool, true, false}
 use mathlib.Core.List.{[]}
@@ -13,7 +13,7 @@ use Rattle.number.specs.Float.{absolute_of, larger_of}
 use Rattle.number.proofs.Held.{zero_of}
 use Rattle.number.proofs.Equal.{NoDifference, equal_difference, own_difference, eq_turned}
 use Rattle.number.proofs.Plus.{is_plus, add_plus, mul_plus, larger_plus, zero_at_most}
-use Rattle.matrix.specs.Matrix.{Matrix, item, row, entry, nought, all_of}
+use Rattle.matrix.specs.Matrix.{Matrix, item, row, entry, all_of}
 use Rattle.matrix.proofs.All.{all_true}
 use Rattle.matrix.proofs.Tabulated.{get_d_tabulate}
 use Rattle.symmetry.specs.Symmetry.{largest_of, largest_in_row, largest_in_rows, largest, skew_row, skew, mirrored, tolerance, is_symmetric}

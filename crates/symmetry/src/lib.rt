@@ -1,9 +1,14 @@
-// Whether a matrix of three rows counts as symmetric. Each answer is equal bit for bit to the definition of any size in specs/.
+// Whether a matrix counts as symmetric. Each answer is equal bit for bit to the definition of any size in specs/.
 // A matrix that equals its transpose is within every tolerance, so that is asked first.
 #![tactic(auto)]
 
 ghost use Rattle.std.specs.Prelude.{◌≡◌, ◌<◌};
+ghost use Rattle.std.specs.Float.{binary64};
+ghost use Rattle.std.specs.Float.Ieee.{sub, eq};
+ghost use Rattle.matrix.specs.Matrix.{entry, all_of};
 ghost use Rattle.symmetry.specs.Symmetry.{largest_in_row, largest, skew_row, skew, mirrored, is_symmetric};
+
+use std::array::from_fn;
 
 // 01, Matrix: the tolerances of the symmetric test.
 pub const SYMMETRY_REL_TOL: f64 = 1.0e-9;
@@ -11,63 +16,85 @@ pub const SYMMETRY_REL_TOL: f64 = 1.0e-9;
 pub const SYMMETRY_ABS_TOL: f64 = 1.0e-12;
 
 // The largest of m and the magnitudes in x.
-fn largest_in_row3(x: [f64; 3], m: f64) -> f64
-    ensures { result ≡ largest_in_row 3 x m }
+fn largest_in_row<const P: usize>(x: [f64; P], m: f64) -> f64
+    ensures { result ≡ largest_in_row P x.entry m }
 {
-    let m0 = m;
-    let m1 = number::float::larger(m0, number::float::absolute(x[0]));
-    let m2 = number::float::larger(m1, number::float::absolute(x[1]));
-    let m3 = number::float::larger(m2, number::float::absolute(x[2]));
-    m3
+    let mut largest = m;
+    for v in &x {
+        largest = number::float::larger(largest, number::float::absolute(*v));
+    }
+    largest
 }
 
 // The largest magnitude in a.
-fn largest3(a: [[f64; 3]; 3]) -> f64
-    ensures { result ≡ largest 3 3 a }
+fn largest<const N: usize, const P: usize>(a: [[f64; P]; N]) -> f64
+    ensures { result ≡ largest N P a.entry }
 {
-    let m0 = 0.0;
-    let m1 = largest_in_row3(a[0], m0);
-    let m2 = largest_in_row3(a[1], m1);
-    let m3 = largest_in_row3(a[2], m2);
-    m3
+    let mut largest = 0.0;
+    for row in &a {
+        largest = largest_in_row(*row, largest);
+    }
+    largest
 }
 
 // Row i of a less its transpose.
-fn skew_row3(a: [[f64; 3]; 3], i: usize) -> [f64; 3]
-    requires { i < 3 }
-    ensures { result ≡ skew_row 3 a i }
+fn skew_row<const N: usize>(a: [[f64; N]; N], i: usize) -> [f64; N]
+    requires { i < N }
+    ensures { result ≡ skew_row N a.entry i }
 {
-    [a[i][0] - a[0][i], a[i][1] - a[1][i], a[i][2] - a[2][i]]
+    from_fn(
+        |j| -> f64
+            requires { (i < N) × (j < N) }
+            ensures { result ≡ sub binary64 (entry a i j) (entry a j i) }
+        { a[i][j] - a[j][i] },
+    )
 }
 
 // a less its transpose.
-fn skew3(a: [[f64; 3]; 3]) -> [[f64; 3]; 3]
-    ensures { result ≡ skew 3 a }
+fn skew<const N: usize>(a: [[f64; N]; N]) -> [[f64; N]; N]
+    ensures { result ≡ skew N a.entry }
 {
-    [skew_row3(a, 0), skew_row3(a, 1), skew_row3(a, 2)]
+    from_fn(
+        |i| -> [f64; N]
+            requires { i < N }
+            ensures { result ≡ skew_row N a i }
+        { skew_row(a, i) },
+    )
 }
 
 // Whether the differences are within the two tolerances.
-fn is_within_tolerance3(a: [[f64; 3]; 3]) -> bool
-    ensures { result ≡ is_symmetric 3 a }
+fn is_within_tolerance<const N: usize>(a: [[f64; N]; N]) -> bool
+    ensures { result ≡ is_symmetric N a.entry }
 {
-    largest3(skew3(a)) <= SYMMETRY_ABS_TOL + SYMMETRY_REL_TOL * largest3(a)
+    largest(skew(a)) <= SYMMETRY_ABS_TOL + SYMMETRY_REL_TOL * largest(a)
+}
+
+// Whether each entry of row i before the diagonal equals the one across it.
+fn is_mirrored_row<const N: usize>(a: [[f64; N]; N], i: usize) -> bool
+    requires { i < N }
+    ensures { result ≡ all_of i (λ j. eq (entry a.entry j i) (entry a.entry i j)) }
+{
+    let mut same = true;
+    for j in 0..i {
+        same &= a[j][i] == a[i][j];
+    }
+    same
 }
 
 // Whether each entry equals the one across the diagonal.
-fn is_mirrored3(a: [[f64; 3]; 3]) -> bool
-    ensures { result ≡ mirrored 3 a }
+fn is_mirrored<const N: usize>(a: [[f64; N]; N]) -> bool
+    ensures { result ≡ mirrored N a.entry }
 {
-    (a[0][1] == a[1][0]) & ((a[0][2] == a[2][0]) & (a[1][2] == a[2][1]))
+    let mut same = true;
+    for i in 0..N {
+        same &= is_mirrored_row(a, i);
+    }
+    same
 }
 
 // Whether a is symmetric within the two tolerances.
-pub fn is_symmetric3(a: [[f64; 3]; 3]) -> bool
-    ensures { result ≡ is_symmetric 3 a }
+pub fn is_symmetric<const N: usize>(a: [[f64; N]; N]) -> bool
+    ensures { result ≡ is_symmetric N a.entry }
 {
-    if is_mirrored3(a) {
-        true
-    } else {
-        is_within_tolerance3(a)
-    }
+    is_mirrored(a) || is_within_tolerance(a)
 }

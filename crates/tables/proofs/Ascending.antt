@@ -1,8 +1,8 @@
 -- Where a sensor's sequence number stands, and where it is noted. Assumes nothing.
+use Rattle.std.specs.Prelude.{None, Some, Option}
 use mathlib.Core.Path.{◌≡◌, refl, ap, sym, subst, ◌∙◌}
 use mathlib.Core.Bool.{Bool, true, false, cond}
 use mathlib.Core.List.{List, [], ◌∷◌, ◌++◌}
-use mathlib.Core.Option.{Option, none, some, some-ne-none}
 use Prim.Native.Nat.{ℕ, zero, suc, ◌+◌, ◌≤◌, ◌<◌, min}
 use native.Mathlib.Omega.{arith}
 use lib.Dec.{eqb, ltb}
@@ -16,9 +16,6 @@ use Rattle.lists.proofs.Loops.{Opened, opened_end}
 use Rattle.lists.proofs.Tables.{count_room, rows, rows_length, unchanged, stored, grown}
 use Rattle.types.specs.declared.tracker.SensorSequence.{SensorSequence}
 use Rattle.tables.specs.Sequences.{entry, not_before, last_of, noted, room_for, inserted_in, noted_in}
-use Rattle.tables.specs.Operations.{place_of}
-use Rattle.tables.specs.declared.Place.{Place}
-use Rattle.tables.specs.declared.Place.TheVariants.{Nowhere, At}
 use Rattle.tables.proofs.Stores.{no_sequence}
 
 -- whether the entry is the sensor's own
@@ -26,22 +23,22 @@ abbrev pub own : ℕ → SensorSequence → Bool
 own sensor e = eqb e.sensor sensor
 
 pub last_at : (sensor : ℕ) (l : List SensorSequence) (i : ℕ) → Leads (not_before sensor) no_sequence l i
-    → last_of sensor l ≡ cond (own sensor (get_or l i no_sequence)) (some (get_or l i no_sequence).sequence) none
+    → last_of sensor l ≡ cond (own sensor (get_or l i no_sequence)) (Some (get_or l i no_sequence).sequence) None
 unfolding last_of
 last_at sensor [] i f = absurd (omega (arith, f.inside))
 last_at sensor (e ∷ l) zero f = rw f.hits
 last_at sensor (e ∷ l) (suc i) f = rw (passed (not_before sensor) no_sequence e l i f) (last_at sensor l i (rest (not_before sensor) no_sequence e l i f))
 
-pub last_none : (sensor : ℕ) (l : List SensorSequence) → first_at (not_before sensor) l ≡ none → last_of sensor l ≡ none
+pub last_none : (sensor : ℕ) (l : List SensorSequence) → first_at (not_before sensor) l ≡ None → last_of sensor l ≡ None
 unfolding last_of first_at
 last_none sensor [] h = refl
 last_none sensor (e ∷ l) h = go (not_before sensor e) (first_at (not_before sensor) l) (last_none sensor l) h
   where
-    go : (b : Bool) (o : Option ℕ) → (o ≡ none → last_of sensor l ≡ none) → cond b (some 0) (one_place_on o) ≡ none
-        → cond b (cond (own sensor e) (some e.sequence) none) (last_of sensor l) ≡ none
-    go true o q h = absurd (some-ne-none 0 h)
-    go false none q h = q refl
-    go false (some j) q h = absurd (some-ne-none (suc j) h)
+    go : (b : Bool) (o : Option ℕ) → (o ≡ None → last_of sensor l ≡ None) → cond b (Some 0) (one_place_on o) ≡ None
+        → cond b (cond (own sensor e) (Some e.sequence) None) (last_of sensor l) ≡ None
+    go true o q h = cc
+    go false None q h = q refl
+    go false (Some j) q h = cc
 
 pub noted_at : (sensor q : ℕ) (l : List SensorSequence) (i : ℕ) → Leads (not_before sensor) no_sequence l i
     → noted sensor q l ≡ cond (own sensor (get_or l i no_sequence)) (set l i (entry sensor q)) (inserted i (entry sensor q) l)
@@ -59,30 +56,30 @@ noted_at sensor q (e ∷ l) (suc i) f =
     go true = refl
     go false = refl
 
-pub noted_none : (sensor q : ℕ) (l : List SensorSequence) → first_at (not_before sensor) l ≡ none → noted sensor q l ≡ inserted (length l) (entry sensor q) l
+pub noted_none : (sensor q : ℕ) (l : List SensorSequence) → first_at (not_before sensor) l ≡ None → noted sensor q l ≡ inserted (length l) (entry sensor q) l
 unfolding noted first_at
 noted_none sensor q [] h = refl
 noted_none sensor q (e ∷ l) h = go (not_before sensor e) (first_at (not_before sensor) l) (noted_none sensor q l) h
   where
-    go : (b : Bool) (o : Option ℕ) → (o ≡ none → noted sensor q l ≡ inserted (length l) (entry sensor q) l) → cond b (some 0) (one_place_on o) ≡ none
+    go : (b : Bool) (o : Option ℕ) → (o ≡ None → noted sensor q l ≡ inserted (length l) (entry sensor q) l) → cond b (Some 0) (one_place_on o) ≡ None
         → cond b (entry sensor q ∷ cond (own sensor e) l (e ∷ l)) (e ∷ noted sensor q l) ≡ e ∷ inserted (length l) (entry sensor q) l
-    go true o w h = absurd (some-ne-none 0 h)
-    go false none w h = ap (λ (r : List SensorSequence). e ∷ r) (w refl)
-    go false (some j) w h = absurd (some-ne-none (suc j) h)
+    go true o w h = cc
+    go false None w h = ap (λ (r : List SensorSequence). e ∷ r) (w refl)
+    go false (Some j) w h = cc
 
 -- a sensor that is new: there must be room
-new : (most sensor q : ℕ) (l : List SensorSequence) (i : ℕ) → last_of sensor l ≡ none → noted sensor q l ≡ inserted i (entry sensor q) l
+new : (most sensor q : ℕ) (l : List SensorSequence) (i : ℕ) → last_of sensor l ≡ None → noted sensor q l ≡ inserted i (entry sensor q) l
     → noted_in most sensor q l ≡ inserted_in most i (entry sensor q) l
 unfolding noted_in room_for
 new most sensor q l i h e = rw (h, e)
 
 -- a sensor that is known
-known_noted : (most sensor q x : ℕ) (l m : List SensorSequence) → last_of sensor l ≡ some x → noted sensor q l ≡ m → noted_in most sensor q l ≡ m
+known_noted : (most sensor q x : ℕ) (l m : List SensorSequence) → last_of sensor l ≡ Some x → noted sensor q l ≡ m → noted_in most sensor q l ≡ m
 unfolding noted_in room_for
 known_noted most sensor q x l m h e = rw (h, e)
 
 -- a search for the sensor's place, among the n that are taken, answered r
-module _ (a : List SensorSequence) (count n sensor : ℕ) (size : length a ≡ 32) (taken : n ≡ min count 32) (r : Place) (answer : place_of r ≡ first_at (not_before sensor) (take n a)) where
+module _ (a : List SensorSequence) (count n sensor : ℕ) (size : length a ≡ 32) (taken : n ≡ min count 32) (r : Option ℕ) (answer : r ≡ first_at (not_before sensor) (take n a)) where
   abbrev l : List SensorSequence
   l = take n a
 
@@ -92,63 +89,63 @@ module _ (a : List SensorSequence) (count n sensor : ℕ) (size : length a ≡ 3
   front : take count a ≡ l
   front = rows a 32 count n size taken
 
-  at_place : (i : ℕ) → r ≡ At i → Leads (not_before sensor) no_sequence l i
-  at_place i e = first_leads (not_before sensor) no_sequence l i (sym answer ∙ ap place_of e)
+  at_place : (i : ℕ) → r ≡ Some i → Leads (not_before sensor) no_sequence l i
+  at_place i e = first_leads (not_before sensor) no_sequence l i (sym answer ∙ e)
 
-  no_place : r ≡ Nowhere → first_at (not_before sensor) l ≡ none
-  no_place e = sym answer ∙ ap place_of e
+  no_place : r ≡ None → first_at (not_before sensor) l ≡ None
+  no_place e = sym answer ∙ e
 
-  pub seat_inside : (i : ℕ) → r ≡ At i → i < n
+  pub seat_inside : (i : ℕ) → r ≡ Some i → i < n
   seat_inside i e = omega (arith, (at_place i e).inside, rows_length a 32 count n size taken)
 
-  same_element : (i : ℕ) → r ≡ At i → get_or l i no_sequence ≡ here i
+  same_element : (i : ℕ) → r ≡ Some i → get_or l i no_sequence ≡ here i
   same_element i e = get_or-take n a i no_sequence (seat_inside i e)
 
-  is_own : (i : ℕ) → r ≡ At i → (here i).sensor ≡ sensor → own sensor (get_or l i no_sequence) ≡ true
+  is_own : (i : ℕ) → r ≡ Some i → (here i).sensor ≡ sensor → own sensor (get_or l i no_sequence) ≡ true
   is_own i e h = ap (own sensor) (same_element i e) ∙ eq-eqb (here i).sensor sensor h
 
-  is_other : (i : ℕ) → r ≡ At i → ((here i).sensor ≡ sensor → ⊥) → own sensor (get_or l i no_sequence) ≡ false
+  is_other : (i : ℕ) → r ≡ Some i → ((here i).sensor ≡ sensor → ⊥) → own sensor (get_or l i no_sequence) ≡ false
   is_other i e h = ap (own sensor) (same_element i e) ∙ ne_eqb (here i).sensor sensor h
 
-  last_own : (i : ℕ) → r ≡ At i → (here i).sensor ≡ sensor → last_of sensor l ≡ some (here i).sequence
+  last_own : (i : ℕ) → r ≡ Some i → (here i).sensor ≡ sensor → last_of sensor l ≡ Some (here i).sequence
   last_own i e h = rw (is_own i e h, same_element i e) at (last_at sensor l i (at_place i e))
 
-  last_other : (i : ℕ) → r ≡ At i → ((here i).sensor ≡ sensor → ⊥) → last_of sensor l ≡ none
+  last_other : (i : ℕ) → r ≡ Some i → ((here i).sensor ≡ sensor → ⊥) → last_of sensor l ≡ None
   last_other i e h = rw (is_other i e h) at (last_at sensor l i (at_place i e))
 
-  pub last_is_own : (i : ℕ) → r ≡ At i → (here i).sensor ≡ sensor → last_of sensor (take count a) ≡ some (here i).sequence
+  pub last_is_own : (i : ℕ) → r ≡ Some i → (here i).sensor ≡ sensor → last_of sensor (take count a) ≡ Some (here i).sequence
   last_is_own i e h = ap (last_of sensor) front ∙ last_own i e h
 
-  pub last_is_other : (i : ℕ) → r ≡ At i → ((here i).sensor ≡ sensor → ⊥) → last_of sensor (take count a) ≡ none
+  pub last_is_other : (i : ℕ) → r ≡ Some i → ((here i).sensor ≡ sensor → ⊥) → last_of sensor (take count a) ≡ None
   last_is_other i e h = ap (last_of sensor) front ∙ last_other i e h
 
-  pub last_is_nowhere : r ≡ Nowhere → last_of sensor (take count a) ≡ none
+  pub last_is_nowhere : r ≡ None → last_of sensor (take count a) ≡ None
   last_is_nowhere e = ap (last_of sensor) front ∙ last_none sensor l (no_place e)
 
   module _ (q : ℕ) where
     across : (i : ℕ) → noted_in 32 sensor q l ≡ inserted_in 32 i (entry sensor q) l → inserted_in 32 i (entry sensor q) (take count a) ≡ noted_in 32 sensor q (take count a)
     across i e = ap (inserted_in 32 i (entry sensor q)) front ∙ sym (ap (noted_in 32 sensor q) front ∙ e)
 
-    pub noted_behind : r ≡ Nowhere → inserted_in 32 n (entry sensor q) (take count a) ≡ noted_in 32 sensor q (take count a)
+    pub noted_behind : r ≡ None → inserted_in 32 n (entry sensor q) (take count a) ≡ noted_in 32 sensor q (take count a)
     noted_behind e =
         across n (new 32 sensor q l n (last_none sensor l (no_place e))
         (noted_none sensor q l (no_place e) ∙ ap (λ (k : ℕ). inserted k (entry sensor q) l) (rows_length a 32 count n size taken)))
 
-    pub noted_among : (i : ℕ) → r ≡ At i → ((here i).sensor ≡ sensor → ⊥) → inserted_in 32 i (entry sensor q) (take count a) ≡ noted_in 32 sensor q (take count a)
+    pub noted_among : (i : ℕ) → r ≡ Some i → ((here i).sensor ≡ sensor → ⊥) → inserted_in 32 i (entry sensor q) (take count a) ≡ noted_in 32 sensor q (take count a)
     noted_among i e h = across i (new 32 sensor q l i (last_other i e h) (rw (is_other i e h) at (noted_at sensor q l i (at_place i e))))
 
-    pub noted_own : (i : ℕ) → r ≡ At i → (here i).sensor ≡ sensor → table (set a i (entry sensor q)) n ≡ over_table (noted_in 32 sensor q (take count a)) a
+    pub noted_own : (i : ℕ) → r ≡ Some i → (here i).sensor ≡ sensor → table (set a i (entry sensor q)) n ≡ over_table (noted_in 32 sensor q (take count a)) a
     noted_own i e h =
         stored a 32 count n size taken (noted_in 32 sensor q) i (entry sensor q) (seat_inside i e)
         (known_noted 32 sensor q (here i).sequence l (set l i (entry sensor q)) (last_own i e h) (rw (is_own i e h) at (noted_at sensor q l i (at_place i e))))
 
 -- ---- room
 
-pub room_new : (a : List SensorSequence) (count sensor : ℕ) → length a ≡ 32 → last_of sensor (take count a) ≡ none → ltb count 32 ≡ room_for 32 sensor (take count a)
+pub room_new : (a : List SensorSequence) (count sensor : ℕ) → length a ≡ 32 → last_of sensor (take count a) ≡ None → ltb count 32 ≡ room_for 32 sensor (take count a)
 unfolding room_for
 room_new a count sensor size h = rw h (sym (count_room a 32 count size))
 
-pub room_known : (l : List SensorSequence) (sensor q : ℕ) → last_of sensor l ≡ some q → true ≡ room_for 32 sensor l
+pub room_known : (l : List SensorSequence) (sensor q : ℕ) → last_of sensor l ≡ Some q → true ≡ room_for 32 sensor l
 unfolding room_for
 room_known l sensor q h = rw h
 

@@ -1,8 +1,8 @@
 -- Noted numbers are a map's: the sensor's own is the one noted, every other's stays, and the sensors still ascend. Assumes nothing.
-use mathlib.Core.Path.{◌≡◌, refl, ap, sym, ◌∙◌}
+use Rattle.std.specs.Prelude.{None, Some}
+use mathlib.Core.Path.{◌≡◌, refl, sym, ◌∙◌}
 use mathlib.Core.Bool.{Bool, true, false, cond}
 use mathlib.Core.List.{List, [], ◌∷◌}
-use mathlib.Core.Option.{Option, none, some}
 use Prim.Native.Nat.{ℕ, ◌≤◌, ◌<◌}
 use native.Mathlib.Omega.{arith}
 use borrow.Author.Tests.{leb-true, leb-false, eqb-true, eqb-false, le-leb, lt-leb, eq-eqb, ne_eqb}
@@ -12,13 +12,13 @@ use Rattle.tables.specs.Sequences.{entry, not_before, last_of, noted, AscendsFro
 
 -- ---- what is looked up after a number is noted
 
-pub last_noted : (sensor q : ℕ) (l : List SensorSequence) → last_of sensor (noted sensor q l) ≡ some q
+pub last_noted : (sensor q : ℕ) (l : List SensorSequence) → last_of sensor (noted sensor q l) ≡ Some q
 unfolding last_of noted
 last_noted sensor q [] = rw (le-leb sensor sensor (omega arith), eq-eqb sensor sensor refl)
 last_noted sensor q (e ∷ l) = go (not_before sensor e) refl (last_noted sensor q l)
   where
-    go : (b : Bool) → not_before sensor e ≡ b → last_of sensor (noted sensor q l) ≡ some q
-        → last_of sensor (cond b (entry sensor q ∷ cond (eqb e.sensor sensor) l (e ∷ l)) (e ∷ noted sensor q l)) ≡ some q
+    go : (b : Bool) → not_before sensor e ≡ b → last_of sensor (noted sensor q l) ≡ Some q
+        → last_of sensor (cond b (entry sensor q ∷ cond (eqb e.sensor sensor) l (e ∷ l)) (e ∷ noted sensor q l)) ≡ Some q
     go true h r = rw (le-leb sensor sensor (omega arith), eq-eqb sensor sensor refl)
     go false h r = rw h r
 
@@ -26,7 +26,7 @@ pub last_noted_other : (k sensor q : ℕ) (l : List SensorSequence) → (k ≡ s
 unfolding last_of noted
 last_noted_other k sensor q [] other = go (not_before k (entry sensor q))
   where
-    go : (b : Bool) → cond b (cond (eqb sensor k) (some q) none) none ≡ none
+    go : (b : Bool) → cond b (cond (eqb sensor k) (Some q) None) None ≡ None
     go true = rw (ne_eqb sensor k (λ e. other (sym e)))
     go false = refl
 last_noted_other k sensor q (e ∷ l) other = go (not_before sensor e) refl (not_before k (entry sensor q)) refl (last_noted_other k sensor q l other)

@@ -1,4 +1,5 @@
 -- What a changed table makes of the tracker, and what code reads past the end of an array. Assumes nothing.
+use Rattle.std.specs.Prelude.{None}
 use mathlib.Core.Path.{◌≡◌, ap}
 use mathlib.Core.Bool.{false}
 use mathlib.Core.List.{List, []}
@@ -6,10 +7,6 @@ use lib.IntN.{pos}
 use lib.ListN.{take}
 use Rattle.lists.specs.Table.{Table, over_table}
 use Rattle.lifecycle.specs.declared.TrackLifecycleState.TheVariants.{Tentative}
-use Rattle.lifecycle.specs.declared.Observation.TheVariants.{Never}
-use Rattle.detections.specs.declared.Class.TheVariants.{Unknown}
-use Rattle.detections.specs.declared.pairs.ClassPrior.TheVariants.{NoPrior}
-use Rattle.types.specs.declared.track.UpdateSensor.TheVariants.{Nobody}
 use Rattle.types.specs.declared.track.Track3D.{Track3D}
 use Rattle.types.specs.declared.tracker.BirthCandidate.{BirthCandidate}
 use Rattle.types.specs.declared.tracker.SensorSequence.{SensorSequence}
@@ -40,11 +37,11 @@ no_track =
     record {
       id = 0;
       filter = record { state = []; covariance = [] };
-      lifecycle = record { state = Tentative; created_at = pos 0; last_observation = Never; last_counted = Never; observation_times = 0 };
-      class_label = Unknown;
-      class_prior = NoPrior;
+      lifecycle = record { state = Tentative; created_at = pos 0; last_observation = None; last_counted = None; observation_times = 0 };
+      class_label = None;
+      class_prior = None;
       state_timestamp = pos 0;
-      last_update_sensor = Nobody;
+      last_update_sensor = None;
       contributing_sensors = record { ids = []; count = 0 };
       updated_this_batch = false;
     }

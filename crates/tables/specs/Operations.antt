@@ -1,13 +1,6 @@
 -- What the operations on tables look for.
 use Rattle.std.specs.Prelude.{ℕ, Bool, eqb}
-use Rattle.std.proofs.Math.Option.{Option, none, some}
 use Rattle.types.specs.declared.track.Track3D.{Track3D}
-use Rattle.tables.specs.declared.Place.{Place}
-use Rattle.tables.specs.declared.Place.TheVariants.{Nowhere, At}
-
-abbrev pub place_of : Place → Option ℕ
-place_of Nowhere = none
-place_of (At i) = some i
 
 -- the track has this number: the one of a number is the first such (`first_of (numbered n)`), and that one is changed (`changeFirst (numbered n)`)
 abbrev pub numbered : ℕ → Track3D → Bool

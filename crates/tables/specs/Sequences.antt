@@ -1,11 +1,8 @@
 -- Sensors with their latest sequence numbers, ascending by sensor: the Rust's map. 01: "32 sensors with a sequence".
-use Rattle.std.specs.Prelude.{ℕ, ◌<◌, Bool, true, false, cond, ◌||◌, List, [], ◌∷◌, eqb, leb, ltb, length}
-use Rattle.std.proofs.Math.Option.{Option, none, some}
+use Rattle.std.specs.Prelude.{ℕ, ◌<◌, Bool, true, false, cond, ◌||◌, List, [], ◌∷◌, eqb, leb, ltb, length, None, Option, Some}
 use Rattle.lists.specs.Table.{Table, over_table, inserted}
 use Rattle.types.specs.declared.tracker.SensorSequence.{SensorSequence}
 use Rattle.tables.specs.declared.sequences.Sequences.{Sequences}
-use Rattle.tables.specs.declared.sequences.LastSequence.{LastSequence}
-use Rattle.tables.specs.declared.sequences.LastSequence.TheVariants.{Nothing, Sequence}
 
 abbrev pub held : Table SensorSequence → Sequences
 held t = record { entries = t.array; count = t.count }
@@ -22,8 +19,8 @@ not_before sensor e = leb sensor e.sensor
 
 -- the sensor's latest number: its place is that of the first one that isn't before it
 unfoldable pub last_of : ℕ → List SensorSequence → Option ℕ
-last_of sensor [] = none
-last_of sensor (e ∷ l) = cond (not_before sensor e) (cond (eqb e.sensor sensor) (some e.sequence) none) (last_of sensor l)
+last_of sensor [] = None
+last_of sensor (e ∷ l) = cond (not_before sensor e) (cond (eqb e.sensor sensor) (Some e.sequence) None) (last_of sensor l)
 
 -- a known sensor takes the number, a new one its place among the others
 unfoldable pub noted : ℕ → ℕ → List SensorSequence → List SensorSequence
@@ -31,8 +28,8 @@ noted sensor q [] = entry sensor q ∷ []
 noted sensor q (e ∷ l) = cond (not_before sensor e) (entry sensor q ∷ cond (eqb e.sensor sensor) l (e ∷ l)) (e ∷ noted sensor q l)
 
 abbrev pub known : Option ℕ → Bool
-known none = false
-known (some q) = true
+known None = false
+known (Some q) = true
 
 -- 01, Batch: "11 a 33rd sensor"
 unfoldable pub room_for : ℕ → ℕ → List SensorSequence → Bool
@@ -54,7 +51,3 @@ AscendsFrom k (e ∷ l) = (k < e.sensor) × AscendsFrom e.sensor l
 unfoldable pub Ascends : List SensorSequence → Type 0
 Ascends [] = Unit {0}
 Ascends (e ∷ l) = AscendsFrom e.sensor l
-
-abbrev pub sequence_of : LastSequence → Option ℕ
-sequence_of Nothing = none
-sequence_of (Sequence q) = some q

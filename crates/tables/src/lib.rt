@@ -7,13 +7,6 @@ pub mod candidates;
 pub mod sequences;
 pub mod tracks;
 
-// Where a search ended.
-#[derive(Clone, Copy)]
-pub enum Place {
-    Nowhere,
-    At(usize),
-}
-
 // How many places of a table are taken, whatever its count says.
 pub fn taken(count: usize, most: usize) -> usize
     ensures { result ≡ min count most }

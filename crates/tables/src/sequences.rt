@@ -2,10 +2,8 @@
 ghost use Rattle.std.specs.Prelude.{◌≡◌, ◌≤◌, min, take};
 ghost use Rattle.lists.specs.First.{first_at};
 ghost use Rattle.types.specs.States.{sequences_of, over_sequences};
-ghost use Rattle.tables.specs.Operations.{place_of};
-ghost use Rattle.tables.specs.Sequences.{not_before, last_of, sequence_of, over, room_for, inserted_in, noted_in};
+ghost use Rattle.tables.specs.Sequences.{not_before, last_of, over, room_for, inserted_in, noted_in};
 
-use super::Place;
 use types::MAX_SEQUENCES;
 use types::tracker::{Cartesian3DTracker, SensorSequence};
 
@@ -16,26 +14,17 @@ pub struct Sequences {
     pub count: usize,
 }
 
-// The latest sequence number of a sensor, where it has one.
-#[derive(Clone, Copy)]
-pub enum LastSequence {
-    Nothing,
-    Sequence(u64),
-}
-
 // Where the first sensor stands that isn't before this one.
-fn seat_of(entries: [SensorSequence; MAX_SEQUENCES], n: usize, sensor: u32) -> Place
+fn seat_of(entries: [SensorSequence; MAX_SEQUENCES], n: usize, sensor: u32) -> Option<usize>
     requires { n ≤ 32 }
-    ensures { place_of result ≡ first_at (not_before sensor) (take n entries) }
+    ensures { result ≡ first_at (not_before sensor) (take n entries) }
 {
-    let mut i: usize = 0;
-    while i < n {
+    for i in 0..n {
         if sensor <= entries[i].sensor {
-            return Place::At(i);
+            return Some(i);
         }
-        i += 1;
     }
-    Place::Nowhere
+    None
 }
 
 // The sensor's latest sequence number. What only reads takes the one table that it reads, which is small beside the state.
@@ -43,18 +32,18 @@ pub fn last_sequence(
     entries: [SensorSequence; MAX_SEQUENCES],
     count: usize,
     sensor: u32,
-) -> LastSequence
-    ensures { sequence_of result ≡ last_of sensor (take count entries) }
+) -> Option<u64>
+    ensures { result ≡ last_of sensor (take count entries) }
 {
     let n = super::taken(count, MAX_SEQUENCES);
     match seat_of(entries, n, sensor) {
-        Place::Nowhere => LastSequence::Nothing,
-        Place::At(i) => {
+        None => None,
+        Some(i) => {
             let e = entries[i];
             if e.sensor == sensor {
-                LastSequence::Sequence(e.sequence)
+                Some(e.sequence)
             } else {
-                LastSequence::Nothing
+                None
             }
         }
     }
@@ -65,8 +54,8 @@ pub fn has_room_for(entries: [SensorSequence; MAX_SEQUENCES], count: usize, sens
     ensures { result ≡ room_for 32 sensor (take count entries) }
 {
     match last_sequence(entries, count, sensor) {
-        LastSequence::Nothing => count < MAX_SEQUENCES,
-        LastSequence::Sequence(_) => true,
+        None => count < MAX_SEQUENCES,
+        Some(_) => true,
     }
 }
 
@@ -81,12 +70,10 @@ fn insert(s: Sequences, at: usize, entry: SensorSequence) -> Sequences
         return Sequences { entries, count: n };
     }
     let mut waiting = entry;
-    let mut j = at;
-    while j < n {
+    for j in at..n {
         let next = entries[j];
         entries[j] = waiting;
         waiting = next;
-        j += 1;
     }
     entries[n] = waiting;
     Sequences {
@@ -103,8 +90,8 @@ pub fn note(s: Sequences, sensor: u32, sequence: u64) -> Sequences
     let mut entries = s.entries;
     let entry = SensorSequence { sensor, sequence };
     match seat_of(entries, n, sensor) {
-        Place::Nowhere => insert(s, n, entry),
-        Place::At(i) => {
+        None => insert(s, n, entry),
+        Some(i) => {
             if entries[i].sensor == sensor {
                 entries[i] = entry;
                 Sequences { entries, count: n }

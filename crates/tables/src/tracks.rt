@@ -4,9 +4,8 @@ ghost use Rattle.lists.specs.First.{first_at, change_first};
 ghost use Rattle.lists.specs.Table.{pushed};
 ghost use Rattle.types.specs.Track.{with_prior, with_mark};
 ghost use Rattle.types.specs.States.{tracks_of, over_tracks};
-ghost use Rattle.tables.specs.Operations.{place_of, numbered};
+ghost use Rattle.tables.specs.Operations.{numbered};
 
-use super::Place;
 use detections::pairs::ClassPrior;
 use types::MAX_TRACKS;
 use types::track::Track3D;
@@ -28,31 +27,33 @@ pub fn push_track(mut s: Cartesian3DTracker, track: Track3D) -> Cartesian3DTrack
 }
 
 // Where the first track of the number stands.
-pub fn find_track(s: Cartesian3DTracker, id: u64) -> Place
-    ensures { place_of result ≡ first_at (numbered id) (tracks_of s) }
+pub fn find_track(s: Cartesian3DTracker, id: u64) -> Option<usize>
+    ensures { result ≡ first_at (numbered id) (tracks_of s) }
 {
     let n = super::taken(s.track_count, MAX_TRACKS);
-    let mut i: usize = 0;
-    while i < n {
+    for i in 0..n {
         if id == s.tracks[i].id {
-            return Place::At(i);
+            return Some(i);
         }
-        i += 1;
     }
-    Place::Nowhere
+    None
 }
 
 // The first track of the number with another prior; nothing changes where there is none.
-pub fn set_prior(mut s: Cartesian3DTracker, id: u64, prior: ClassPrior) -> Cartesian3DTracker
+pub fn set_prior(
+    mut s: Cartesian3DTracker,
+    id: u64,
+    prior: Option<ClassPrior>,
+) -> Cartesian3DTracker
     ensures { result ≡ over_tracks s (change_first (numbered id) (with_prior prior) (tracks_of s)) }
 {
     let n = super::taken(s.track_count, MAX_TRACKS);
     match find_track(s, id) {
-        Place::Nowhere => {
+        None => {
             s.track_count = n;
             s
         }
-        Place::At(i) => {
+        Some(i) => {
             let x = s.tracks[i];
             s.tracks[i] = types::track::with_class_prior(x, prior);
             s.track_count = n;
@@ -66,10 +67,8 @@ pub fn clear_marks(mut s: Cartesian3DTracker) -> Cartesian3DTracker
     ensures { result ≡ over_tracks s (map (with_mark false) (tracks_of s)) }
 {
     let n = super::taken(s.track_count, MAX_TRACKS);
-    let mut i: usize = 0;
-    while i < n {
+    for i in 0..n {
         s.tracks[i].updated_this_batch = false;
-        i += 1;
     }
     s.track_count = n;
     s

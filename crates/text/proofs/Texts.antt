@@ -2,67 +2,44 @@
 use mathlib.Core.Path.{◌≡◌, refl, ap, sym, ◌∙◌}
 use mathlib.Core.Bool.{Bool, true, false, cond}
 use mathlib.Core.List.{List, [], ◌∷◌, ◌++◌, append_assoc, append-nil}
-use Prim.Native.Nat.{ℕ, zero, suc, ◌+◌, ◌<◌, ◌≤◌, ◌/◌, ◌%◌, min}
+use Prim.Native.Nat.{ℕ, zero, suc, ◌+◌, ◌<◌, ◌≤◌, ◌/◌, ◌%◌}
 use native.Mathlib.Numerals.{add-one}
 use native.Mathlib.Omega.{arith}
-use native.Mathlib.Decide.{dec_le}
 use borrow.Author.Tests.{lt-ltb, le-ltb}
 use lib.Dec.{ltb}
-use lib.ListN.{length, take, drop, get_or, set, length-append}
-use lib.Seq.{paste, paste-suc, length-paste, take-length, take_at, drop-drop, drop-append-add, take-suc, take_all}
+use lib.ListN.{length, take, drop, get_or, length-append}
+use lib.Seq.{length-take-le, take_at, take-suc}
 use Rattle.forms.specs.Bytes.{bytes_of}
 use Rattle.kuhn_munkres.specs.Assignment.{Pair, Pairs}
 use Rattle.lists.specs.Lay.{lay}
 use Rattle.lists.specs.Masks.{zipped}
 use Rattle.assignment.specs.Listing.{pair_of}
-use Rattle.text.specs.Text.{Wrote, Put, digits_of, item_text, list_text, pair_text, pairs_text, unmatched_text, refused_text, answer_text, roomed}
+use Rattle.text.specs.declared.writer.Text.{Text}
+use Rattle.text.specs.Text.{Wrote, Puts, Written, written, digits_of, item_text, list_text, pair_text, pairs_text, unmatched_text, refused_text, answer_text, roomed}
 
-pub paste_more : (d : List ℕ) (at : ℕ) (s : List ℕ) (j : ℕ) → at + j < length d → j < length s → set (paste d at s j) (at + j) (get_or s j 0) ≡ paste d at s (j + 1)
-paste_more d at s j h g = rw (add-one) (paste-suc d at s j 0 h g)
-
--- ---- a text behind a text
-lay_more : (t u o : List ℕ) → paste (lay t o) (length t) u (length u) ≡ lay (t ++ u) o
-unfolding lay
-lay_more t u o =
-    let a : take (length t) (t ++ drop (length t) o) ≡ t = take_at t (drop (length t) o) (length t) refl in
-    let b : drop (length t + length u) (t ++ drop (length t) o) ≡ drop (length t + length u) o = drop-append-add t (drop (length t) o) (length u) ∙ drop-drop (length u) (length t) o in
-    rw (a, take-length u, b, length-append t u)
-
-wrote : (t u o : List ℕ) (at r : ℕ) (o₁ o₂ : List ℕ) → Wrote t o at o₁ → r ≡ at + length u → o₂ ≡ paste o₁ at u (length u) → Wrote (t ++ u) o r o₂
-wrote t u o at r o₁ o₂ w e f =
-    record {
-      place = e ∙ ap (λ (k : ℕ). k + length u) w.place ∙ sym (length-append t u);
-      holds = f ∙ ap (λ (k : ℕ). paste o₁ k u (length u)) w.place ∙ ap (λ (l : List ℕ). paste l (length t) u (length u)) w.holds ∙ lay_more t u o;
-    }
-
-pub wrote_none : (o : List ℕ) → Wrote [] o 0 o
-unfolding lay
-wrote_none o = record { place = refl; holds = refl }
-
-pub pasted : (u : List ℕ) (at : ℕ) (o : List ℕ) (r : ℕ) (o' : List ℕ) → at + length u ≤ length o → r ≡ at + length u → o' ≡ paste o at u (length u) → Put u at o r o'
-pasted u at o r o' h e f =
-    record {
-      place = e;
-      long = ap length f ∙ length-paste o at u (length u) h (omega arith);
-      holds = λ t b w. wrote t u b at r o o' w e f;
-    }
-
-pub put_none : (at : ℕ) (o : List ℕ) → Put [] at o at o
-put_none at o = record { place = omega arith; long = refl; holds = λ t b w. rw (append-nil t) w }
-
-pub put_then : {u v : List ℕ} {at r q : ℕ} {o o₁ o₂ : List ℕ} → Put u at o r o₁ → Put v r o₁ q o₂ → Put (u ++ v) at o q o₂
-put_then {u} {v} {at} {r} {q} {o} {o₁} {o₂} x y =
+-- ---- bytes put behind bytes
+pub puts_then : {u v : List ℕ} {a b c : Text} → Puts u a b → Puts v b c → Puts (u ++ v) a c
+puts_then {u} {v} {a} {b} {c} x y =
     record {
       place = let e = length-append u v in let f = x.place in let g = y.place in omega arith;
       long = y.long ∙ x.long;
-      holds = λ t b w. rw (append_assoc t u v) at (y.holds (t ++ u) b (x.holds t b w));
+      holds = y.holds ∙ ap (λ (l : List ℕ). l ++ v) x.holds ∙ append_assoc (written a) u v;
     }
 
-pub put_same : {u v : List ℕ} {at r : ℕ} {o o' : List ℕ} → u ≡ v → Put u at o r o' → Put v at o r o'
-put_same e x = rw e at x
+pub puts_same : {u v : List ℕ} {a b : Text} → u ≡ v → Puts u a b → Puts v a b
+puts_same e x = rw e at x
 
-pub put_first : {u : List ℕ} {o : List ℕ} {r : ℕ} {o' : List ℕ} → Put u 0 o r o' → Wrote u o r o'
-put_first {u} {o} x = x.holds [] o (wrote_none o)
+pub puts_none : (a : Text) → Puts [] a a
+puts_none a = record { place = omega arith; long = refl; holds = sym (append-nil (written a)) }
+
+-- the first that is put, into a text that holds nothing
+pub puts_first : {u : List ℕ} {a b : Text} → a.len ≡ 0 → length a.bytes ≡ 1024 → b.len ≤ 1024 → Puts u a b → Written u b
+puts_first {u} {a} {b} e f g x = record { long = x.long ∙ f; room = g; holds = x.holds ∙ ap (λ (n : ℕ). take n a.bytes ++ u) e }
+
+-- a text copied into a buffer
+pub wrote_none : (o : List ℕ) → Wrote [] o 0 o
+unfolding lay
+wrote_none o = record { place = refl; holds = refl }
 
 -- ---- digits
 pub digits_one : (n : ℕ) → n < 10 → (48 + n % 10) ∷ [] ≡ digits_of n
@@ -128,17 +105,6 @@ pub pairs_more : (a b : List ℕ) (i : ℕ) → i < length a → i < length b
 unfolding pairs_text
 pairs_more a b i h g = sym (rw (add-one, zip_more a b i h g, pairs_append (zipped pair_of (take i a) (take i b)) (pair_of (get_or a i 0) (get_or b i 0) ∷ []), append-nil (pair_text (pair_of (get_or a i 0) (get_or b i 0)))))
 
--- an array of 64 has no more than 64
-pub take_few : (l : List ℕ) (i n count : ℕ) → length l ≡ 64 → n ≡ min count 64 → i ≤ n → n ≤ i → take i l ≡ take count l
-take_few l i n count h e f g = go (dec_le count 64)
-  where
-    go : Dec (count ≤ 64) → take i l ≡ take count l
-    go (yes k) = let u : i ≡ count = omega arith in rw u
-    go (no k) = take_all i l (omega arith) ∙ sym (take_all count l (omega arith))
-
-pub zipped_few : (a b : List ℕ) (i n count : ℕ) → length a ≡ 64 → length b ≡ 64 → n ≡ min count 64 → i ≤ n → n ≤ i → zipped pair_of (take i a) (take i b) ≡ zipped pair_of (take count a) (take count b)
-zipped_few a b i n count h k e f g = rw (take_few a i n count h e f g, take_few b i n count k e f g)
-
 -- ---- the answer
 pub unmatched_is : (rows columns : List ℕ)
     → (41 ∷ 32 ∷ 40 ∷ 114 ∷ 111 ∷ 119 ∷ 115 ∷ []) ++ list_text rows ++ (41 ∷ 32 ∷ 40 ∷ 99 ∷ 111 ∷ 108 ∷ 117 ∷ 109 ∷ 110 ∷ 115 ∷ []) ++ list_text columns ++ (41 ∷ 41 ∷ 10 ∷ []) ≡ unmatched_text rows columns
@@ -151,6 +117,13 @@ answer_is a = refl
 
 pub wrote_same : {t u o : List ℕ} {r : ℕ} {o' : List ℕ} → t ≡ u → Wrote t o r o' → Wrote u o r o'
 wrote_same e w = rw e at w
+
+-- the text copied into a buffer
+pub copied : (t : Text) (o w : List ℕ) → t.len ≤ length t.bytes → w ≡ written t → Wrote (written t) o t.len (w ++ drop t.len o)
+unfolding lay
+copied t o w h e =
+    let k : length (written t) ≡ t.len = length-take-le t.len t.bytes h in
+    record { place = sym k; holds = ap (λ (l : List ℕ). l ++ drop t.len o) e ∙ ap (λ (n : ℕ). written t ++ drop n o) (sym k) }
 
 -- ---- room
 pub no_room : (n : ℕ) (t : List ℕ) → n < 1024 → [] ≡ roomed n t

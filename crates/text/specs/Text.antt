@@ -1,10 +1,11 @@
 -- What is written, as bytes. 01, Line of the program `assign`: "Whole output: `(answer (pairs (0 0) (1 1)) (rows) (columns))`: pairs as row and column, then those
 -- unmatched, from 0. A refusal prints `(refused 13)`, with its own number. Either output ends with a newline."
-use Rattle.std.specs.Prelude.{◌≡◌, cond, List, [], ◌∷◌, ◌++◌, ℕ, ◌+◌, ◌/◌, ◌%◌, ltb, length}
+use Rattle.std.specs.Prelude.{◌≡◌, cond, List, [], ◌∷◌, ◌++◌, ℕ, ◌+◌, ◌/◌, ◌%◌, ◌≤◌, ltb, length, take}
 use Rattle.forms.specs.Bytes.{bytes_of}
 use Rattle.number.specs.Reply.{Reply, refused, given}
 use Rattle.lists.specs.Lay.{lay}
 use Rattle.kuhn_munkres.specs.Assignment.{Pair, Pairs}
+use Rattle.text.specs.declared.writer.Text.{Text}
 
 -- a number below 100, as every row, column and refusal is (laws: proofs/Digits here, proofs/Named in `line`)
 unfoldable pub digits_of : ℕ → List ℕ
@@ -54,8 +55,17 @@ pub record Wrote (t o : List ℕ) (r : ℕ) (o' : List ℕ) : Type 0 where
   pub place : r ≡ length t
   pub holds : o' ≡ lay t o
 
--- u put at `at` into a buffer: what stood in front stays, and r is the place behind it
-pub record Put (u : List ℕ) (at : ℕ) (o : List ℕ) (r : ℕ) (o' : List ℕ) : Type 0 where
-  pub place : r ≡ at + length u
-  pub long : length o' ≡ length o
-  pub holds : (t b : List ℕ) → Wrote t b at o → Wrote (t ++ u) b r o'
+abbrev pub written : Text → List ℕ
+written t = take t.len t.bytes
+
+-- u put behind the bytes of a text
+pub record Puts (u : List ℕ) (t t' : Text) : Type 0 where
+  pub place : t'.len ≡ t.len + length u
+  pub long : length t'.bytes ≡ length t.bytes
+  pub holds : written t' ≡ written t ++ u
+
+-- a text that holds u
+pub record Written (u : List ℕ) (t : Text) : Type 0 where
+  pub long : length t.bytes ≡ 1024
+  pub room : t.len ≤ 1024
+  pub holds : written t ≡ u

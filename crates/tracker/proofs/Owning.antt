@@ -1,8 +1,8 @@
 -- A batch by its stages, put together. Assumes nothing.
+use Rattle.std.specs.Prelude.{Err, Ok, Result, Option}
 use mathlib.Core.Path.{◌≡◌, refl, sym, ap, subst, ◌∙◌}
 use mathlib.Core.Bool.{true, false}
 use mathlib.Core.List.{List, map}
-use mathlib.Core.Option.{Option}
 use Prim.Native.Nat.{ℕ, ◌≤◌}
 use native.Mathlib.Omega.{arith}
 use lib.ListN.{length, take, replicate, length-take}
@@ -11,14 +11,12 @@ use Rattle.lists.specs.Lay.{lay}
 use Rattle.lists.proofs.Laying.{lay_lay, lay_own}
 use Rattle.types.specs.declared.batch.ObservationBatch3D.{ObservationBatch3D}
 use Rattle.types.specs.declared.refusal.Refusal.{Refusal}
-use Rattle.types.specs.declared.refusal.Outcome.{Outcome}
-use Rattle.types.specs.declared.refusal.Outcome.TheVariants as outcome
 use Rattle.types.specs.declared.track.Track3D.{Track3D}
 use Rattle.types.specs.declared.tracker.Cartesian3DTracker.{Cartesian3DTracker}
 use Rattle.types.specs.Refusals.{number_of, reply_of, answered}
 use Rattle.types.specs.Track.{with_mark}
 use Rattle.types.specs.Batches.{batch_of}
-use Rattle.types.specs.States.{State, state_of, tracks_of, sequences_of, candidates_of, last_time_of, over_tracks, over_state}
+use Rattle.types.specs.States.{State, state_of, tracks_of, sequences_of, candidates_of, over_tracks, over_state}
 use Rattle.types.proofs.Overs.{state_over, settings_over, tracks_again}
 use Rattle.tables.specs.Sequences.{room_for}
 use Rattle.calls.specs.Predict.{at_time, predicted_tracks}
@@ -74,7 +72,7 @@ over_again t l x h =
       tracks = lay_lay x.tracks l t.tracks h i;
       track_count = length x.tracks;
       next_track_id = x.next;
-      last_time = last_time_of x.last;
+      last_time = x.last;
       sequences = lay x.sequences (lay_own t.sequence_count t.sequences i);
       sequence_count = length x.sequences;
       candidates = lay x.candidates (lay_own t.candidate_count t.candidates i);
@@ -116,8 +114,8 @@ module _ (t : Cartesian3DTracker) (b : ObservationBatch3D) where
       go (refused n) = refl
       go (given ms) = refl
 
-  module _ (u : Cartesian3DTracker) (o : Outcome) (a : Answers t u o (prepared_state t b.timestamp)) where
-    pub move_refused : (why : Refusal) → o ≡ outcome.Refused why → moved_reply t b ≡ refused (number_of why)
+  module _ (u : Cartesian3DTracker) (o : Result (Unit {0}) Refusal) (a : Answers t u o (prepared_state t b.timestamp)) where
+    pub move_refused : (why : Refusal) → o ≡ Err why → moved_reply t b ≡ refused (number_of why)
     unfolding prepared_state
     move_refused why e =
         let h = subst (λ x. Answers t u x (prepared_state t b.timestamp)) e a in
@@ -129,11 +127,11 @@ module _ (t : Cartesian3DTracker) (b : ObservationBatch3D) where
       pub laid : u ≡ over_state t (tracks_in t (tracks_of u))
       pub left : moved_reply t b ≡ rest_reply t b (tracks_of u)
 
-    pub ready : o ≡ outcome.Done → Ready
+    pub ready : o ≡ Ok tt → Ready
     unfolding prepared_state
     ready e = go moves refl (subst (λ x. Answers t u x (prepared_state t b.timestamp)) e a)
       where
-        go : (x : Reply (List Track3D)) → moves ≡ x → Answers t u outcome.Done (and_then x (λ ts. given (tracks_in t (map (with_mark false) ts)))) → Ready
+        go : (x : Reply (List Track3D)) → moves ≡ x → Answers t u (Ok tt) (and_then x (λ ts. given (tracks_in t (map (with_mark false) ts)))) → Ready
         go (refused n) w h = never_given n tt (sym h.is)
         go (given ms) w h =
             let l : tracks_of u ≡ map (with_mark false) ms = ap tracks_of h.whole ∙ tracks_held t (tracks_in t (map (with_mark false) ms)) in
@@ -151,7 +149,7 @@ module _ (t : Cartesian3DTracker) (b : ObservationBatch3D) where
     match_as : match_reply u b ≡ matched_with t.config b.sensor_id b.timestamp (seen_in b) (tracks_of u)
     match_as = ap (λ c. matched_with c b.sensor_id b.timestamp (seen_in b) (tracks_of u)) same_settings
 
-    pub match_refused : (why : Refusal) → m.outcome ≡ outcome.Refused why → rest_reply t b (tracks_of u) ≡ refused (number_of why)
+    pub match_refused : (why : Refusal) → m.outcome ≡ Err why → rest_reply t b (tracks_of u) ≡ refused (number_of why)
     match_refused why e =
         let n : match_reply u b ≡ refused (number_of why) = sym h.is ∙ ap (λ o. answered o (matched_by b m)) e in
         ap (λ (x : Reply Matched). and_then x (finished t.config (state_of t) b)) (sym match_as ∙ n)
@@ -170,7 +168,7 @@ module _ (t : Cartesian3DTracker) (b : ObservationBatch3D) where
     pub listed : m.paired.unmatched ≡ lay (take m.paired.unmatched_count m.paired.unmatched) (replicate 64 0)
     listed = let l = h.pairing.unmatched in l.slots ∙ ap (λ (q : List ℕ). lay q (replicate 64 0)) (sym (listed_told _ m.paired.unmatched m.paired.unmatched_count l))
 
-    module _ (done : m.outcome ≡ outcome.Done) where
+    module _ (done : m.outcome ≡ Ok tt) where
       abbrev all : Matched
       all = matched_by b m
 
@@ -209,12 +207,12 @@ module _ (t : Cartesian3DTracker) (b : ObservationBatch3D) where
         ended : Answers m.tracker r.tracker r.outcome (state_given ends)
         ended = subst (λ (x : Reply Done). Answers m.tracker r.tracker r.outcome (state_given x)) finish_as f.tracker
 
-        pub end_refused : (why : Refusal) → r.outcome ≡ outcome.Refused why → rest_reply t b (tracks_of u) ≡ refused (number_of why)
+        pub end_refused : (why : Refusal) → r.outcome ≡ Err why → rest_reply t b (tracks_of u) ≡ refused (number_of why)
         end_refused why e =
             let a = subst (λ o. Answers m.tracker r.tracker o (state_given ends)) e ended in
             rest_as ∙ refused_before ends (λ (d : Done). d.state) (number_of why) (refused_same m.tracker r.tracker why _ a).0
 
-        pub end_done : r.outcome ≡ outcome.Done → Replies t (rest_reply t b (tracks_of u)) r
+        pub end_done : r.outcome ≡ Ok tt → Replies t (rest_reply t b (tracks_of u)) r
         end_done e =
             subst (λ (x : Reply Done). Replies t x r) (sym rest_as)
             (record { tracker = record { is = ended.is; whole = ended.whole ∙ go ends refl ended.is }; reported = f.reported ∙ ap report_after finish_as })

@@ -4,7 +4,7 @@ use Rattle.number.specs.Reply.{Reply, and_then}
 use Rattle.types.specs.declared.batch.ObservationBatch3D.{ObservationBatch3D}
 use Rattle.types.specs.declared.track.Track3D.{Track3D}
 use Rattle.types.specs.declared.tracker.Cartesian3DTracker.{Cartesian3DTracker}
-use Rattle.types.specs.States.{state_of, tracks_of, sequences_of, time_of}
+use Rattle.types.specs.States.{state_of, tracks_of, sequences_of}
 use Rattle.batches.specs.Check.{batch_reply}
 use Rattle.calls.specs.Update.{matched, matched_with}
 use Rattle.calls.specs.Process.{Done, finished}
@@ -15,7 +15,7 @@ use Rattle.stages.specs.Stages.{seen_in}
 
 -- stage 1
 abbrev pub check_reply : Cartesian3DTracker → ObservationBatch3D → Reply (Unit {0})
-check_reply t b = batch_reply t.config.frame_id (time_of t.last_time) (sequences_of t) b
+check_reply t b = batch_reply t.config.frame_id (t.last_time) (sequences_of t) b
 
 -- stages 4 to 9, on these tracks
 abbrev pub rest_reply : Cartesian3DTracker → ObservationBatch3D → List Track3D → Reply Done

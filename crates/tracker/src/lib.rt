@@ -11,24 +11,23 @@ ghost use Rattle.tracker.specs.Owner.{check_reply, rest_reply, moved_reply, Repl
 use detections::pairs::ClassPrior;
 use settings::Cartesian3DTrackerConfig;
 use stages::Reported;
-use tables::Place;
 use types::MAX_TRACKS;
 use types::batch::ObservationBatch3D;
-use types::refusal::{Outcome, Refusal};
+use types::refusal::Refusal;
 use types::track::Snapshots;
 use types::tracker::Cartesian3DTracker;
 
 // Whether a call was carried out, and the tracker after it.
 #[derive(Clone, Copy)]
 pub struct Answered {
-    pub outcome: Outcome,
+    pub outcome: Result<(), Refusal>,
     pub tracker: Cartesian3DTracker,
 }
 
 // Whether the settings were accepted, and a tracker under them.
 #[derive(Clone, Copy)]
 pub struct Created {
-    pub outcome: Outcome,
+    pub outcome: Result<(), Refusal>,
     pub tracker: Cartesian3DTracker,
 }
 
@@ -49,21 +48,24 @@ pub fn set_class_prior(t: Cartesian3DTracker, id: u64, label: u32, confidence: f
 {
     if !number::float::is_finite(confidence) {
         return Answered {
-            outcome: Outcome::Refused(Refusal::InvalidPrior),
+            outcome: Err(Refusal::InvalidPrior),
             tracker: t,
         };
     }
     match tables::tracks::find_track(t, id) {
-        Place::Nowhere => Answered {
-            outcome: Outcome::Refused(Refusal::InvalidPrior),
+        None => Answered {
+            outcome: Err(Refusal::InvalidPrior),
             tracker: t,
         },
-        Place::At(_) => Answered {
-            outcome: Outcome::Done,
+        Some(_) => Answered {
+            outcome: Ok(()),
             tracker: tables::tracks::set_prior(
                 stages::with_counts(t),
                 id,
-                ClassPrior::Prior(label, number::float::clamp_to_unit(confidence)),
+                Some(ClassPrior {
+                    label,
+                    confidence: number::float::clamp_to_unit(confidence),
+                }),
             ),
         },
     }
@@ -76,7 +78,7 @@ pub fn predict_to(t: Cartesian3DTracker, timestamp: i64) -> Answered
     let last = t.last_time;
     if batches::is_before(last, timestamp) {
         return Answered {
-            outcome: Outcome::Refused(Refusal::TimestampWentBackwards),
+            outcome: Err(Refusal::TimestampWentBackwards),
             tracker: t,
         };
     }
@@ -84,12 +86,12 @@ pub fn predict_to(t: Cartesian3DTracker, timestamp: i64) -> Answered
     let outcome = step.outcome;
     let moved = step.tracker;
     match outcome {
-        Outcome::Refused(why) => Answered {
-            outcome: Outcome::Refused(why),
+        Err(why) => Answered {
+            outcome: Err(why),
             tracker: t,
         },
-        Outcome::Done => Answered {
-            outcome: Outcome::Done,
+        Ok(()) => Answered {
+            outcome: Ok(()),
             tracker: moving::with_time(moved, timestamp),
         },
     }
@@ -111,13 +113,13 @@ fn pair_and_finish(
     let pairs = paired.pairs;
     let unmatched = paired.unmatched;
     match outcome {
-        Outcome::Refused(why) => stages::refuse(t, why),
-        Outcome::Done => {
+        Err(why) => stages::refuse(t, why),
+        Ok(()) => {
             let done = stages::finish(updated, batch, pairs, unmatched, paired.unmatched_count);
             let ended = done.outcome;
             match ended {
-                Outcome::Refused(why) => stages::refuse(t, why),
-                Outcome::Done => done,
+                Err(why) => stages::refuse(t, why),
+                Ok(()) => done,
             }
         }
     }
@@ -132,8 +134,8 @@ fn carry_out(t: Cartesian3DTracker, batch: ObservationBatch3D) -> Reported
     let outcome = step.outcome;
     let ready = step.tracker;
     match outcome {
-        Outcome::Refused(why) => stages::refuse(t, why),
-        Outcome::Done => pair_and_finish(t, ready, batch),
+        Err(why) => stages::refuse(t, why),
+        Ok(()) => pair_and_finish(t, ready, batch),
     }
 }
 
@@ -146,8 +148,8 @@ pub fn process_batch_reported(t: Cartesian3DTracker, batch: ObservationBatch3D) 
     let last = t.last_time;
     let sequences = t.sequences;
     match batches::validate_batch(frame, last, sequences, t.sequence_count, batch) {
-        Outcome::Refused(why) => stages::refuse(t, why),
-        Outcome::Done => carry_out(t, batch),
+        Err(why) => stages::refuse(t, why),
+        Ok(()) => carry_out(t, batch),
     }
 }
 
@@ -158,10 +160,8 @@ pub fn snapshots(t: Cartesian3DTracker) -> Snapshots
     let n = tables::taken(t.track_count, MAX_TRACKS);
     let blank = types::track::snapshot_of(types::tracker::blank_track());
     let mut items = [blank; MAX_TRACKS];
-    let mut i: usize = 0;
-    while i < n {
+    for i in 0..n {
         items[i] = types::track::snapshot_of(t.tracks[i]);
-        i += 1;
     }
     Snapshots { items, count: n }
 }

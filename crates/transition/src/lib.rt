@@ -93,6 +93,6 @@ pub fn moved_spread(dt: f64, p: [[f64; 6]; 6]) -> [[f64; 6]; 6]
     if can_glide(p, m, dt) {
         glide_columns(m, dt)
     } else {
-        congruence::congruence_6x6(models::cv_f6(dt), p)
+        congruence::congruence(models::cv_f6(dt), p)
     }
 }

@@ -1,7 +1,7 @@
 -- What a list laid over a table leaves in the tracker, and in a report; the state of a fresh tracker. Assumes nothing.
+use Rattle.std.specs.Prelude.{None, Some, Option}
 use mathlib.Core.Path.{◌≡◌, refl, sym, ap, ◌∙◌}
 use mathlib.Core.List.{List}
-use mathlib.Core.Option.{Option, none, some}
 use Prim.Native.Nat.{ℕ, min, ◌≤◌}
 use lib.Dec.{ltb}
 use lib.IntN.{ℤ}
@@ -10,9 +10,7 @@ use Rattle.lists.specs.Lay.{lay}
 use Rattle.lists.specs.Table.{Table, table, over_table}
 use Rattle.lists.proofs.Laying.{take_lay, lay_lay, lay_own}
 use Rattle.lists.proofs.Tables.{count_room}
-use Rattle.lifecycle.specs.declared.Observation.{Observation}
-use Rattle.lifecycle.specs.declared.Observation.TheVariants.{Never, At}
-use Rattle.types.specs.States.{State, state_with, with_tables, state_of, tracks_of, sequences_of, candidates_of, over_tracks, over_sequences, over_candidates, time_of, last_time_of, over_state}
+use Rattle.types.specs.States.{State, state_with, with_tables, state_of, tracks_of, sequences_of, candidates_of, over_tracks, over_sequences, over_candidates, over_state}
 use Rattle.types.specs.Batches.{Report, report_of, over_report, whole_report}
 use Rattle.types.specs.declared.batch.ObservationAssociation.{ObservationAssociation}
 use Rattle.types.specs.declared.batch.BatchReport3D.{BatchReport3D}
@@ -53,9 +51,9 @@ state_over_candidates s l = rw (candidates_over s l)
 
 -- ---- a whole state, and a whole report
 
-time_back : (o : Option ℤ) → time_of (last_time_of o) ≡ o
-time_back none = refl
-time_back (some t) = refl
+time_back : (o : Option ℤ) → (o) ≡ o
+time_back None = refl
+time_back (Some t) = refl
 
 pub state_over : (s : Cartesian3DTracker) (x : State) → state_of (over_state s x) ≡ x
 unfolding state_of tracks_of sequences_of candidates_of over_state
@@ -67,9 +65,9 @@ settings_over s x = refl
 
 -- ---- counts that are no more than there are places
 
-last_back : (o : Observation) → o ≡ last_time_of (time_of o)
-last_back Never = refl
-last_back (At t) = refl
+last_back : (o : Option ℤ) → o ≡ (o)
+last_back None = refl
+last_back (Some t) = refl
 
 count_by : {A : Type 0} (a : List A) (most n k : ℕ) → length a ≡ most → k ≡ min n most → k ≡ length (take n a)
 count_by a most n k size e = e ∙ ap (min n) (sym size) ∙ sym (length-take n a)
@@ -102,7 +100,7 @@ module _ (t : Cartesian3DTracker) (s : State) where
         tracks = e i;
         track_count = length l;
         next_track_id = s.next;
-        last_time = last_time_of s.last;
+        last_time = s.last;
         sequences = lay s.sequences t.sequences;
         sequence_count = length s.sequences;
         candidates = lay s.candidates t.candidates;
@@ -121,7 +119,7 @@ module _ (t : Cartesian3DTracker) (s : State) where
         tracks = lay s.tracks t.tracks;
         track_count = length s.tracks;
         next_track_id = s.next;
-        last_time = last_time_of s.last;
+        last_time = s.last;
         sequences = lay_lay l s.sequences t.sequences h i;
         sequence_count = length l;
         candidates = lay s.candidates t.candidates;

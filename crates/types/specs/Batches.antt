@@ -1,12 +1,10 @@
 -- A batch and a report with lists in the place of arrays with a count.
-use Rattle.std.specs.Prelude.{ℕ, List, ℤ, pos, length, take, replicate}
+use Rattle.std.specs.Prelude.{ℕ, List, ℤ, pos, length, take, replicate, None}
 use Rattle.lists.specs.Lay.{lay}
 use Rattle.detections.specs.declared.Detection.{Detection}
 use Rattle.types.specs.declared.batch.ObservationBatch3D.{ObservationBatch3D}
-use Rattle.settings.specs.declared.optional.OptionalF64.TheVariants as f64
 use Rattle.types.specs.declared.batch.ObservationAssociation.{ObservationAssociation}
 use Rattle.types.specs.declared.batch.ObservationOutcome.TheVariants.{Unmatched}
-use Rattle.types.specs.declared.batch.AssociatedTrack.TheVariants as track
 use Rattle.types.specs.declared.batch.BatchReport3D.{BatchReport3D}
 
 -- what of a batch is a list; all else is read off the struct
@@ -47,7 +45,7 @@ over_report r l ids =
 -- ---- the whole report of a call
 
 abbrev pub blank_association : ObservationAssociation
-blank_association = record { observation_index = 0; track_id = track.None; outcome = Unmatched; cost = f64.None }
+blank_association = record { observation_index = 0; track_id = None; outcome = Unmatched; cost = None }
 
 -- a report of nothing, of a time and a sensor
 abbrev pub empty_report : ℤ → ℕ → BatchReport3D

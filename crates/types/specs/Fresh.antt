@@ -1,13 +1,8 @@
 -- A tracker that has seen nothing. 01, What demand 3 speaks of: "from a fresh tracker under any accepted settings".
-use Rattle.std.specs.Prelude.{false, [], pos, replicate}
-use Rattle.std.proofs.Math.Option.{none}
+use Rattle.std.specs.Prelude.{false, [], pos, replicate, None}
 use Rattle.lifecycle.specs.Lifecycle.{new_of}
-use Rattle.lifecycle.specs.declared.Observation.TheVariants.{Never}
 use Rattle.settings.specs.declared.Cartesian3DTrackerConfig.{Cartesian3DTrackerConfig}
 use Rattle.matrix.specs.Matrix.{nought}
-use Rattle.detections.specs.declared.Class.TheVariants.{Unknown}
-use Rattle.detections.specs.declared.pairs.ClassPrior.TheVariants.{NoPrior}
-use Rattle.types.specs.declared.track.UpdateSensor.TheVariants.{Nobody}
 use Rattle.types.specs.declared.track.Track3D.{Track3D}
 use Rattle.types.specs.declared.tracker.BirthCandidate.{BirthCandidate}
 use Rattle.types.specs.declared.tracker.SensorSequence.{SensorSequence}
@@ -16,7 +11,7 @@ use Rattle.types.specs.States.{State}
 
 -- the Rust's `new`: no tracks, the first number is 1
 abbrev pub fresh_state : State
-fresh_state = record { tracks = []; next = 1; last = none; sequences = []; candidates = [] }
+fresh_state = record { tracks = []; next = 1; last = None; sequences = []; candidates = [] }
 
 -- ---- the whole struct, with what stands in the places that nothing has taken
 
@@ -26,10 +21,10 @@ blank_track =
       id = 0;
       filter = record { state = replicate 6 nought; covariance = replicate 36 nought };
       lifecycle = new_of (pos 0);
-      class_label = Unknown;
-      class_prior = NoPrior;
+      class_label = None;
+      class_prior = None;
       state_timestamp = pos 0;
-      last_update_sensor = Nobody;
+      last_update_sensor = None;
       contributing_sensors = record { ids = replicate 16 0; count = 0 };
       updated_this_batch = false;
     }
@@ -46,7 +41,7 @@ fresh_of c =
       tracks = replicate 64 blank_track;
       track_count = 0;
       next_track_id = 1;
-      last_time = Never;
+      last_time = None;
       sequences = replicate 32 blank_sequence;
       sequence_count = 0;
       candidates = replicate 64 blank_candidate;

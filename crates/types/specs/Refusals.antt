@@ -1,12 +1,10 @@
 -- The numbers of the refusals. 01, What each call declines.
-use Rattle.std.specs.Prelude.{ℕ}
+use Rattle.std.specs.Prelude.{ℕ, Err, Ok, Result}
 use Rattle.number.specs.Reply.{Reply, refused, given}
 use Rattle.settings.specs.Fields.{SettingsReply}
 use Rattle.settings.specs.Fields as settings
 use Rattle.types.specs.declared.refusal.Refusal.{Refusal}
 use Rattle.types.specs.declared.refusal.Refusal.TheVariants.{InvalidConfig, FrameMismatch, TimestampWentBackwards, DuplicateBatch, NonFiniteValue, NotSymmetric, NotPositiveDefinite, TimestampOverflow, NonFiniteResult, AssignmentFailed, TooMany, InvalidPrior}
-use Rattle.types.specs.declared.refusal.Outcome.{Outcome}
-use Rattle.types.specs.declared.refusal.Outcome.TheVariants.{Done, Refused}
 
 abbrev pub number_of : Refusal → ℕ
 number_of (InvalidConfig field) = 1
@@ -38,15 +36,15 @@ field_of TooMany = 0
 field_of InvalidPrior = 0
 
 -- an outcome with the value that stands beside it
-abbrev pub answered : {A : Type 0} → Outcome → A → Reply A
-answered Done v = given v
-answered (Refused why) v = refused (number_of why)
+abbrev pub answered : {A : Type 0} → Result (Unit {0}) Refusal → A → Reply A
+answered (Ok _) v = given v
+answered (Err why) v = refused (number_of why)
 
 -- the outcome alone
-abbrev pub reply_of : Outcome → Reply (Unit {0})
+abbrev pub reply_of : Result (Unit {0}) Refusal → Reply (Unit {0})
 reply_of o = answered o tt
 
 -- the same in the terms of the settings' check, with the field
-abbrev pub settings_reply_of : Outcome → SettingsReply
-settings_reply_of Done = settings.accepted
-settings_reply_of (Refused why) = settings.refused (number_of why) (field_of why)
+abbrev pub settings_reply_of : Result (Unit {0}) Refusal → SettingsReply
+settings_reply_of (Ok _) = settings.accepted
+settings_reply_of (Err why) = settings.refused (number_of why) (field_of why)

@@ -1,9 +1,6 @@
 -- The state of a tracker with lists in the place of arrays with a count, and lists laid over the arrays.
-use Rattle.std.specs.Prelude.{ℕ, List, ℤ, take}
-use Rattle.std.proofs.Math.Option.{Option, none, some}
+use Rattle.std.specs.Prelude.{ℕ, List, ℤ, take, Option}
 use Rattle.lists.specs.Table.{Table, table, over_table}
-use Rattle.lifecycle.specs.declared.Observation.{Observation}
-use Rattle.lifecycle.specs.declared.Observation.TheVariants.{Never, At}
 use Rattle.types.specs.declared.track.Track3D.{Track3D}
 use Rattle.types.specs.declared.tracker.BirthCandidate.{BirthCandidate}
 use Rattle.types.specs.declared.tracker.SensorSequence.{SensorSequence}
@@ -16,14 +13,6 @@ pub record State : Type 0 where
   pub last : Option ℤ
   pub sequences : List SensorSequence
   pub candidates : List BirthCandidate
-
-abbrev pub time_of : Observation → Option ℤ
-time_of Never = none
-time_of (At t) = some t
-
-abbrev pub last_time_of : Option ℤ → Observation
-last_time_of none = Never
-last_time_of (some t) = At t
 
 -- the first places of each table, whatever its count says
 unfoldable pub tracks_of : Cartesian3DTracker → List Track3D
@@ -40,7 +29,7 @@ state_of s =
     record {
       tracks = tracks_of s;
       next = s.next_track_id;
-      last = time_of s.last_time;
+      last = s.last_time;
       sequences = sequences_of s;
       candidates = candidates_of s;
     }
@@ -52,7 +41,7 @@ state_with tracks sequences candidates s = record { tracks = tracks; next = s.ne
 -- ---- a list in the place of a table: the places behind it are as they were
 
 -- the one place that builds a tracker anew: what calls change, and the settings as s has them
-abbrev pub with_parts : ℕ → Observation → Table Track3D → Table SensorSequence → Table BirthCandidate → Cartesian3DTracker → Cartesian3DTracker
+abbrev pub with_parts : ℕ → Option ℤ → Table Track3D → Table SensorSequence → Table BirthCandidate → Cartesian3DTracker → Cartesian3DTracker
 with_parts next last tracks sequences candidates s =
     record {
       tracks = tracks.array;
@@ -89,4 +78,4 @@ over_candidates s l = with_tables (track_table s) (sequence_table s) (over_table
 
 -- A whole state laid over a tracker: its lists in the first places of the tables, their lengths as counts; the places behind them and the settings are as s has them.
 unfoldable pub over_state : Cartesian3DTracker → State → Cartesian3DTracker
-over_state s x = with_parts x.next (last_time_of x.last) (over_table x.tracks s.tracks) (over_table x.sequences s.sequences) (over_table x.candidates s.candidates) s
+over_state s x = with_parts x.next x.last (over_table x.tracks s.tracks) (over_table x.sequences s.sequences) (over_table x.candidates s.candidates) s

@@ -1,17 +1,15 @@
 -- One part of a track changed, and what is shown of it.
-use Rattle.std.specs.Prelude.{Bool, [], ◌∷◌, ℤ, get_or}
+use Rattle.detections.specs.declared.pairs.ClassPrior.{ClassPrior}
+use Rattle.std.specs.Prelude.{Bool, [], ◌∷◌, ℤ, get_or, Option, ℕ}
 use Rattle.std.specs.Float.{nan}
 use Rattle.filter.specs.declared.KalmanFilter.{KalmanFilter}
 use Rattle.lifecycle.specs.declared.TrackLifecycle.{TrackLifecycle}
 use Rattle.lifecycle.specs.declared.sensors.Sensors.{Sensors}
-use Rattle.detections.specs.declared.Class.{Class}
-use Rattle.detections.specs.declared.pairs.ClassPrior.{ClassPrior}
-use Rattle.types.specs.declared.track.UpdateSensor.{UpdateSensor}
 use Rattle.types.specs.declared.track.Track3D.{Track3D}
 use Rattle.types.specs.declared.track.Track3DSnapshot.{Track3DSnapshot}
 
 -- The one place that builds a track anew: what calls may change, and the rest as x has it.
-abbrev pub rebuilt : KalmanFilter → TrackLifecycle → Class → ClassPrior → ℤ → UpdateSensor → Sensors → Bool → Track3D → Track3D
+abbrev pub rebuilt : KalmanFilter → TrackLifecycle → Option ℕ → Option ClassPrior → ℤ → Option ℕ → Sensors → Bool → Track3D → Track3D
 rebuilt filter life label prior time last sensors mark x =
     record {
       id = x.id;
@@ -31,20 +29,20 @@ with_filter f x = rebuilt f x.lifecycle x.class_label x.class_prior x.state_time
 abbrev pub with_lifecycle : TrackLifecycle → Track3D → Track3D
 with_lifecycle l x = rebuilt x.filter l x.class_label x.class_prior x.state_timestamp x.last_update_sensor x.contributing_sensors x.updated_this_batch x
 
-abbrev pub relabelled : Class → ClassPrior → UpdateSensor → Track3D → Track3D
+abbrev pub relabelled : Option ℕ → Option ClassPrior → Option ℕ → Track3D → Track3D
 relabelled label prior last x = rebuilt x.filter x.lifecycle label prior x.state_timestamp last x.contributing_sensors x.updated_this_batch x
 
-abbrev pub with_label : Class → Track3D → Track3D
+abbrev pub with_label : Option ℕ → Track3D → Track3D
 with_label label x = relabelled label x.class_prior x.last_update_sensor x
 
-abbrev pub with_prior : ClassPrior → Track3D → Track3D
+abbrev pub with_prior : Option ClassPrior → Track3D → Track3D
 with_prior prior x = relabelled x.class_label prior x.last_update_sensor x
 
 abbrev pub with_timestamp : ℤ → Track3D → Track3D
 with_timestamp time x = rebuilt x.filter x.lifecycle x.class_label x.class_prior time x.last_update_sensor x.contributing_sensors x.updated_this_batch x
 
 -- the sensor of the latest update, and all that contributed
-abbrev pub with_sensors : UpdateSensor → Sensors → Track3D → Track3D
+abbrev pub with_sensors : Option ℕ → Sensors → Track3D → Track3D
 with_sensors last sensors x = rebuilt x.filter x.lifecycle x.class_label x.class_prior x.state_timestamp last sensors x.updated_this_batch x
 
 abbrev pub with_mark : Bool → Track3D → Track3D

@@ -1,7 +1,6 @@
 // What a sensor hands in at one time, and the report of what became of it.
 use detections::Detection;
 use settings::frame::FrameName;
-use settings::optional::OptionalF64;
 
 // The count may be anything: one over 64 is refused before all else.
 #[derive(Clone, Copy)]
@@ -22,20 +21,13 @@ pub enum ObservationOutcome {
     Unmatched,
 }
 
-// The track that a detection updated or spawned, where it did.
-#[derive(Clone, Copy)]
-pub enum AssociatedTrack {
-    None,
-    Id(u64),
-}
-
 #[derive(Clone, Copy)]
 pub struct ObservationAssociation {
     pub observation_index: usize,
-    pub track_id: AssociatedTrack,
+    pub track_id: Option<u64>,
     pub outcome: ObservationOutcome,
     // The cost of the pair, with the prior's penalty, where it was paired.
-    pub cost: OptionalF64,
+    pub cost: Option<f64>,
 }
 
 // One association for each detection, in the batch's order, and the tracks that none was paired with, in the table's.

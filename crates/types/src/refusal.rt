@@ -5,6 +5,8 @@ ghost use Rattle.assignment.specs.Replies as assignment;
 ghost use Rattle.settings.specs.Settings as settings;
 ghost use Rattle.types.specs.Refusals.{number_of, reply_of, settings_reply_of};
 
+use assignment::AssignmentError;
+
 #[derive(Clone, Copy)]
 pub enum Refusal {
     // With the number of the first bad field.
@@ -22,13 +24,6 @@ pub enum Refusal {
     InvalidPrior,
 }
 
-// Whether a call was carried out.
-#[derive(Clone, Copy)]
-pub enum Outcome {
-    Done,
-    Refused(Refusal),
-}
-
 // A refusal of matrices and filters.
 pub fn of_matrix(why: math::linalg::Refusal) -> Refusal
     ensures { number_of result ≡ math.number_of why }
@@ -42,23 +37,23 @@ pub fn of_matrix(why: math::linalg::Refusal) -> Refusal
 }
 
 // What the assignment answers, apart from its pairs.
-pub fn of_assignment(outcome: assignment::Outcome) -> Outcome
-    ensures { reply_of result ≡ assignment.reply_of outcome tt }
+pub fn of_assignment(answer: Result<(), AssignmentError>) -> Result<(), Refusal>
+    ensures { reply_of result ≡ assignment.reply_of answer tt }
 {
-    match outcome {
-        assignment::Outcome::Given => Outcome::Done,
-        assignment::Outcome::TooMany => Outcome::Refused(Refusal::TooMany),
-        assignment::Outcome::NonFinite => Outcome::Refused(Refusal::NonFiniteResult),
-        assignment::Outcome::Failed => Outcome::Refused(Refusal::AssignmentFailed),
+    match answer {
+        Ok(()) => Ok(()),
+        Err(AssignmentError::TooMany) => Err(Refusal::TooMany),
+        Err(AssignmentError::NonFinite) => Err(Refusal::NonFiniteResult),
+        Err(AssignmentError::Failed) => Err(Refusal::AssignmentFailed),
     }
 }
 
 // What the check of the settings answers.
-pub fn of_settings(answer: settings::Validation) -> Outcome
+pub fn of_settings(answer: Result<(), u32>) -> Result<(), Refusal>
     ensures { settings_reply_of result ≡ settings.reply_of answer }
 {
     match answer {
-        settings::Validation::Accepted => Outcome::Done,
-        settings::Validation::BadField(field) => Outcome::Refused(Refusal::InvalidConfig(field)),
+        Ok(()) => Ok(()),
+        Err(field) => Err(Refusal::InvalidConfig(field)),
     }
 }

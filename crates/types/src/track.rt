@@ -2,29 +2,21 @@
 ghost use Rattle.std.specs.Prelude.{◌≡◌};
 ghost use Rattle.types.specs.Track.{with_filter, with_lifecycle, with_label, with_prior, with_timestamp, with_sensors, with_mark, relabelled, snapshot_of};
 
-use detections::Class;
 use detections::pairs::ClassPrior;
 use filter::KalmanFilter;
 use lifecycle::sensors::Sensors;
-use lifecycle::{Observation, TrackLifecycle, TrackLifecycleState};
-
-// The sensor of the latest update, where there was one.
-#[derive(Clone, Copy)]
-pub enum UpdateSensor {
-    Nobody,
-    Sensor(u32),
-}
+use lifecycle::{TrackLifecycle, TrackLifecycleState};
 
 #[derive(Clone, Copy)]
 pub struct Track3D {
     pub id: u64,
     pub filter: KalmanFilter,
     pub lifecycle: TrackLifecycle,
-    pub class_label: Class,
-    pub class_prior: ClassPrior,
+    pub class_label: Option<u32>,
+    pub class_prior: Option<ClassPrior>,
     // The time that the filter's state refers to.
     pub state_timestamp: i64,
-    pub last_update_sensor: UpdateSensor,
+    pub last_update_sensor: Option<u32>,
     pub contributing_sensors: Sensors,
     pub updated_this_batch: bool,
 }
@@ -35,11 +27,11 @@ pub struct Track3DSnapshot {
     pub track_id: u64,
     pub lifecycle: TrackLifecycleState,
     pub state_timestamp: i64,
-    pub last_observation_timestamp: Observation,
-    pub last_update_sensor: UpdateSensor,
+    pub last_observation_timestamp: Option<i64>,
+    pub last_update_sensor: Option<u32>,
     pub contributing_sensors: Sensors,
-    pub class_label: Class,
-    pub class_prior: ClassPrior,
+    pub class_label: Option<u32>,
+    pub class_prior: Option<ClassPrior>,
     pub updated_in_last_batch: bool,
     pub observation_times_count: u32,
     pub position: [f64; 3],
@@ -84,7 +76,12 @@ pub fn with_mark(mut t: Track3D, updated: bool) -> Track3D
 }
 
 // The one place that builds a track anew from its parts: a field that is an enum can't be stored to.
-fn relabel(t: Track3D, label: Class, prior: ClassPrior, sensor: UpdateSensor) -> Track3D
+fn relabel(
+    t: Track3D,
+    label: Option<u32>,
+    prior: Option<ClassPrior>,
+    sensor: Option<u32>,
+) -> Track3D
     ensures { result ≡ relabelled label prior sensor t }
 {
     let filter = t.filter;
@@ -103,7 +100,7 @@ fn relabel(t: Track3D, label: Class, prior: ClassPrior, sensor: UpdateSensor) ->
     }
 }
 
-pub fn with_class_label(t: Track3D, label: Class) -> Track3D
+pub fn with_class_label(t: Track3D, label: Option<u32>) -> Track3D
     ensures { result ≡ with_label label t }
 {
     let prior = t.class_prior;
@@ -111,7 +108,7 @@ pub fn with_class_label(t: Track3D, label: Class) -> Track3D
     relabel(t, label, prior, sensor)
 }
 
-pub fn with_class_prior(t: Track3D, prior: ClassPrior) -> Track3D
+pub fn with_class_prior(t: Track3D, prior: Option<ClassPrior>) -> Track3D
     ensures { result ≡ with_prior prior t }
 {
     let label = t.class_label;
@@ -120,7 +117,7 @@ pub fn with_class_prior(t: Track3D, prior: ClassPrior) -> Track3D
 }
 
 // The sensor of the latest update, and all that contributed.
-pub fn with_sensors(mut t: Track3D, last: UpdateSensor, sensors: Sensors) -> Track3D
+pub fn with_sensors(mut t: Track3D, last: Option<u32>, sensors: Sensors) -> Track3D
     ensures { result ≡ with_sensors last sensors t }
 {
     let label = t.class_label;

@@ -2,12 +2,11 @@
 ghost use Rattle.std.specs.Prelude.{◌≡◌};
 ghost use Rattle.types.specs.Fresh.{blank_track, fresh_of};
 
-use super::track::{Track3D, UpdateSensor};
-use detections::Class;
+use super::track::Track3D;
 use detections::pairs::ClassPrior;
 use filter::KalmanFilter;
+use lifecycle::TrackLifecycle;
 use lifecycle::sensors::Sensors;
-use lifecycle::{Observation, TrackLifecycle};
 use settings::Cartesian3DTrackerConfig;
 
 // A detection too near a confirmed track, which may turn out to be a neighbour.
@@ -32,7 +31,7 @@ pub struct Cartesian3DTracker {
     pub tracks: [Track3D; super::MAX_TRACKS],
     pub track_count: usize,
     pub next_track_id: u64,
-    pub last_time: Observation,
+    pub last_time: Option<i64>,
     pub sequences: [SensorSequence; super::MAX_SEQUENCES],
     pub sequence_count: usize,
     pub candidates: [BirthCandidate; super::MAX_CANDIDATES],
@@ -56,10 +55,10 @@ pub fn blank_track() -> Track3D
         id: 0,
         filter,
         lifecycle: TrackLifecycle::new(0),
-        class_label: Class::Unknown,
-        class_prior: ClassPrior::NoPrior,
+        class_label: None,
+        class_prior: None,
         state_timestamp: 0,
-        last_update_sensor: UpdateSensor::Nobody,
+        last_update_sensor: None,
         contributing_sensors,
         updated_this_batch: false,
     }
@@ -86,7 +85,7 @@ pub fn fresh(config: Cartesian3DTrackerConfig) -> Cartesian3DTracker
         tracks,
         track_count: 0,
         next_track_id: 1,
-        last_time: Observation::Never,
+        last_time: None,
         sequences,
         sequence_count: 0,
         candidates,

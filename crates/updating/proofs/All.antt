@@ -1,7 +1,7 @@
 -- What the loop over all tracks comes to, and what its turns say. Assumes nothing.
+use Rattle.std.specs.Prelude.{None, Option, Some}
 use mathlib.Core.Path.{◌≡◌, sym, ap, ◌∙◌, subst}
 use mathlib.Core.List.{List}
-use mathlib.Core.Option.{Option, none, some}
 use Prim.Native.Nat.{ℕ, min, ◌+◌, ◌≤◌, ◌<◌}
 use native.Mathlib.Omega.{arith}
 use borrow.Author.Tests.{lt-ltb, le-ltb}
@@ -25,10 +25,10 @@ use Rattle.association.specs.Told.{mate_of}
 -- ---- the detection of a track
 
 module _ (mates : List ℕ) (ds : List Detection) (i : ℕ) where
-  pub has_mate : get_or mates i 0 < 64 → mate_of mates ds i ≡ some (get_or ds (get_or mates i 0) no_detection)
+  pub has_mate : get_or mates i 0 < 64 → mate_of mates ds i ≡ Some (get_or ds (get_or mates i 0) no_detection)
   has_mate h = rw (lt-ltb (get_or mates i 0) 64 h)
 
-  pub no_mate : 64 ≤ get_or mates i 0 → mate_of mates ds i ≡ none
+  pub no_mate : 64 ≤ get_or mates i 0 → mate_of mates ds i ≡ None
   no_mate h = rw (le-ltb (get_or mates i 0) 64 h)
 
 -- ---- a turn
@@ -37,13 +37,13 @@ abbrev pub steps : Update → (ℕ → Option Detection) → ℕ → Track3D →
 steps u took i t = updated_or_not u t (took i)
 
 module _ (u : Update) (took : ℕ → Option Detection) (l m : List Track3D) (i : ℕ) (a : Track3D) (s : Stepped (steps u took) l m i) where
-  pub as_it_was : i < length l → took i ≡ none → Stepped (steps u took) l m (i + 1)
+  pub as_it_was : i < length l → took i ≡ None → Stepped (steps u took) l m (i + 1)
   as_it_was h e = subst (λ q. Stepped (steps u took) l q (i + 1)) (set-get_or m i a) (stepped_more (steps u took) l m i a (get_or m i a) s h (ap (updated_or_not u (get_or m i a)) e))
 
-  pub updated : (d : Detection) (y : Track3D) → i < length l → took i ≡ some d → updated_as u (get_or m i a) d ≡ given y → Stepped (steps u took) l (set m i y) (i + 1)
+  pub updated : (d : Detection) (y : Track3D) → i < length l → took i ≡ Some d → updated_as u (get_or m i a) d ≡ given y → Stepped (steps u took) l (set m i y) (i + 1)
   updated d y h e g = stepped_more (steps u took) l m i a y s h (ap (updated_or_not u (get_or m i a)) e ∙ g)
 
-  pub stops : (n : ℕ) (d : Detection) (k : ℕ) → i < n → n ≤ length l → took i ≡ some d → updated_as u (get_or m i a) d ≡ refused k → each_at (steps u took) 0 (take n l) ≡ refused k
+  pub stops : (n : ℕ) (d : Detection) (k : ℕ) → i < n → n ≤ length l → took i ≡ Some d → updated_as u (get_or m i a) d ≡ refused k → each_at (steps u took) 0 (take n l) ≡ refused k
   stops n d k h w e g = stepped_stops (steps u took) l m n i a k s h w (ap (updated_or_not u (get_or m i a)) e ∙ g)
 
 -- ---- the end

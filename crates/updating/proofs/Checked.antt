@@ -1,8 +1,8 @@
 -- A detection that has passed its checks is corrected by what the calls' definition gives with the checks. Assumes nothing.
+use Rattle.std.specs.Prelude.{None, Option, Some}
 use mathlib.Core.Path.{◌≡◌, refl, sym, ap}
 use mathlib.Core.Bool.{true, ◌&&◌}
 use mathlib.Core.List.{List, [], ◌∷◌}
-use mathlib.Core.Option.{Option, none, some}
 use Prim.Native.Nat.{ℕ, suc}
 use lib.IntN.{ℤ}
 use Rattle.number.specs.Reply.{Reply, given, and_then}
@@ -42,11 +42,11 @@ module _ (d : Detection) (ok : detection_reply d ≡ given tt) where
 
 -- ---- the same for all tracks of a batch, whose detections are checked before any track is looked at
 
-module _ (c : Cartesian3DTrackerConfig) (sensor : ℕ) (now : ℤ) (took : ℕ → Option Detection) (ok : (i : ℕ) (d : Detection) → took i ≡ some d → detection_reply d ≡ given tt) where
-  one : (t : Track3D) (o : Option Detection) → ((d : Detection) → o ≡ some d → detection_reply d ≡ given tt) → updated_or_not (update_of c sensor now) t o ≡ updated_by c sensor now t o
+module _ (c : Cartesian3DTrackerConfig) (sensor : ℕ) (now : ℤ) (took : ℕ → Option Detection) (ok : (i : ℕ) (d : Detection) → took i ≡ Some d → detection_reply d ≡ given tt) where
+  one : (t : Track3D) (o : Option Detection) → ((d : Detection) → o ≡ Some d → detection_reply d ≡ given tt) → updated_or_not (update_of c sensor now) t o ≡ updated_by c sensor now t o
   unfolding updated_by
-  one t none h = refl
-  one t (some d) h = updated_checked d (h d refl) c sensor now t
+  one t None h = refl
+  one t (Some d) h = updated_checked d (h d refl) c sensor now t
 
   pub each_checked : (i : ℕ) (ts : List Track3D) → each_at (λ k t. updated_or_not (update_of c sensor now) t (took k)) i ts ≡ each_at (λ k t. updated_by c sensor now t (took k)) i ts
   unfolding each_at

@@ -1,12 +1,9 @@
 -- One track and the detection that it is paired with, for a detection that has passed its checks: `updatedWith` of calls without them (`updated-checked` of proofs/Checked.antt says so).
-use Rattle.std.specs.Prelude.{ℕ, ℤ}
-use Rattle.std.proofs.Math.Option.{Option, none, some}
+use Rattle.std.specs.Prelude.{ℕ, ℤ, None, Option, Some}
 use Rattle.number.specs.Reply.{Reply, given, and_then}
-use Rattle.settings.specs.Optional.{f64_of}
 use Rattle.settings.specs.declared.Cartesian3DTrackerConfig.{Cartesian3DTrackerConfig}
 use Rattle.filter.specs.declared.KalmanFilter.{KalmanFilter}
 use Rattle.filter.specs.Filter.{expected_of, updated_from}
-use Rattle.detections.specs.declared.Class.{Class}
 use Rattle.detections.specs.declared.Detection.{Detection}
 use Rattle.types.specs.declared.track.Track3D.{Track3D}
 use Rattle.types.specs.declared.tracker.Cartesian3DTracker.{Cartesian3DTracker}
@@ -24,18 +21,18 @@ update_of c sensor now = record { time = now; sensor = sensor; limit = c.max_con
 unfoldable pub corrected : Option Moving → Detection → KalmanFilter → Reply KalmanFilter
 corrected v d f = and_then (updated_from (expected_of f) d.position d.covariance f) (velocity_updated v)
 
-abbrev pub observed_as : Update → Class → Track3D → Track3D
+abbrev pub observed_as : Update → Option ℕ → Track3D → Track3D
 observed_as u seen t = observation_applied u.lifecycle u.limit u.sensor u.time seen t
 
 unfoldable pub updated_as : Update → Track3D → Detection → Reply Track3D
-updated_as u t d = and_then (corrected (moving_of (f64_of u.deviation) d.velocity) d t.filter) (λ f. given (observed_as u d.class_label (with_filter f t)))
+updated_as u t d = and_then (corrected (moving_of (u.deviation) d.velocity) d t.filter) (λ f. given (observed_as u d.class_label (with_filter f t)))
 
 -- ---- all tracks
 
 -- a track that took no detection is as it was
 abbrev pub updated_or_not : Update → Track3D → Option Detection → Reply Track3D
-updated_or_not u t none = given t
-updated_or_not u t (some d) = updated_as u t d
+updated_or_not u t None = given t
+updated_or_not u t (Some d) = updated_as u t d
 
 -- the tracker with its tracks updated in order; what stands behind their count is as it was
 unfoldable pub updated_tracks : Cartesian3DTracker → (ℕ → Option Detection) → Update → Reply Cartesian3DTracker

@@ -1,11 +1,9 @@
 // What a detection does to the track that it is paired with.
 #![tactic(auto)]
 
-ghost use Rattle.std.specs.Prelude.{◌≡◌, cond};
-ghost use Rattle.std.proofs.Math.Option.{none, some};
+ghost use Rattle.std.specs.Prelude.{◌≡◌, cond, None, Some};
 ghost use Rattle.number.specs.Reply.{given, and_then};
 ghost use Rattle.lifecycle.specs.Lifecycle.{registered_of};
-ghost use Rattle.settings.specs.Optional.{f64_of};
 ghost use Rattle.filter.specs.Filter.{Answer, reply_of_step};
 ghost use Rattle.types.specs.Track.{with_filter, with_lifecycle};
 ghost use Rattle.calls.specs.Update.{moving_of, velocity_updated, labelled_by};
@@ -13,14 +11,12 @@ ghost use Rattle.moving.specs.Steps.{TrackAnswers, TrackerAnswers};
 ghost use Rattle.updating.specs.Updates.{update_of, corrected, observed_as, updated_as, updated_or_not, updated_tracks};
 ghost use Rattle.association.specs.Told.{mate_of};
 
-use detections::{Class, Detection, Velocity};
+use detections::{Detection, PlanarVelocity};
 use filter::KalmanFilter;
 use lifecycle::LifecycleConfig;
 use moving::{TrackStep, TrackerStep};
 use settings::Cartesian3DTrackerConfig;
-use settings::optional::OptionalF64;
-use types::refusal::Outcome;
-use types::track::{Track3D, UpdateSensor};
+use types::track::Track3D;
 use types::tracker::Cartesian3DTracker;
 use types::{MAX_OBSERVATIONS, MAX_TRACKS};
 
@@ -30,7 +26,7 @@ pub struct Update {
     pub time: i64,
     pub sensor: u32,
     pub limit: usize,
-    pub deviation: OptionalF64,
+    pub deviation: Option<f64>,
     pub lifecycle: LifecycleConfig,
 }
 
@@ -40,9 +36,9 @@ fn given_back(before: KalmanFilter, step: filter::Step) -> filter::Step
 {
     let outcome = step.outcome;
     match outcome {
-        filter::Outcome::Done => step,
-        filter::Outcome::Refused(why) => filter::Step {
-            outcome: filter::Outcome::Refused(why),
+        Ok(()) => step,
+        Err(why) => filter::Step {
+            outcome: Err(why),
             filter: before,
         },
     }
@@ -52,29 +48,29 @@ fn given_back(before: KalmanFilter, step: filter::Step) -> filter::Step
 fn correct_velocity(
     before: KalmanFilter,
     f: KalmanFilter,
-    velocity: Velocity,
-    deviation: OptionalF64,
+    velocity: Option<PlanarVelocity>,
+    deviation: Option<f64>,
 ) -> filter::Step
-    ensures { Answer before result (velocity_updated (moving_of (f64_of deviation) velocity) f) }
+    ensures { Answer before result (velocity_updated (moving_of deviation velocity) f) }
 {
     match deviation {
-        OptionalF64::None => filter::Step {
-            outcome: filter::Outcome::Done,
+        None => filter::Step {
+            outcome: Ok(()),
             filter: f,
         },
-        OptionalF64::Some(std) => match velocity {
-            Velocity::Unmeasured => filter::Step {
-                outcome: filter::Outcome::Done,
+        Some(std) => match velocity {
+            None => filter::Step {
+                outcome: Ok(()),
                 filter: f,
             },
-            Velocity::Measured(x, y) => given_back(before, filter::update_velocity(f, [x, y], std)),
+            Some(v) => given_back(before, filter::update_velocity(f, [v.x, v.y], std)),
         },
     }
 }
 
 // The filter after a detection that has passed its checks.
-fn correct(f: KalmanFilter, d: Detection, deviation: OptionalF64) -> filter::Step
-    ensures { Answer f result (corrected (moving_of (f64_of deviation) d.velocity) d f) }
+fn correct(f: KalmanFilter, d: Detection, deviation: Option<f64>) -> filter::Step
+    ensures { Answer f result (corrected (moving_of (deviation) d.velocity) d f) }
 {
     let position = d.position;
     let covariance = d.covariance;
@@ -83,21 +79,21 @@ fn correct(f: KalmanFilter, d: Detection, deviation: OptionalF64) -> filter::Ste
     let outcome = first.outcome;
     let next = first.filter;
     match outcome {
-        filter::Outcome::Done => correct_velocity(f, next, velocity, deviation),
-        filter::Outcome::Refused(why) => filter::Step {
-            outcome: filter::Outcome::Refused(why),
+        Ok(()) => correct_velocity(f, next, velocity, deviation),
+        Err(why) => filter::Step {
+            outcome: Err(why),
             filter: f,
         },
     }
 }
 
 // The class of a track that has none is the detection's.
-fn class_after(class: Class, seen: Class) -> Class
+fn class_after(class: Option<u32>, seen: Option<u32>) -> Option<u32>
     ensures { result ≡ labelled_by class seen }
 {
     match class {
-        Class::Unknown => seen,
-        Class::Label(x) => Class::Label(x),
+        None => seen,
+        Some(x) => Some(x),
     }
 }
 
@@ -110,7 +106,7 @@ pub fn register_track(mut t: Track3D, time: i64, life: LifecycleConfig) -> Track
 }
 
 // The track with all but its filter as the update leaves it.
-fn observe(x: Track3D, seen: Class, u: Update) -> Track3D
+fn observe(x: Track3D, seen: Option<u32>, u: Update) -> Track3D
     ensures { result ≡ observed_as u seen x }
 {
     let life = u.lifecycle;
@@ -121,7 +117,7 @@ fn observe(x: Track3D, seen: Class, u: Update) -> Track3D
     let timed = types::track::with_state_timestamp(registered, u.time);
     let contributed = types::track::with_sensors(
         timed,
-        UpdateSensor::Sensor(sensor),
+        Some(sensor),
         lifecycle::sensors::record_sensor(sensors, sensor, u.limit),
     );
     let labelled = types::track::with_class_label(contributed, class_after(class, seen));
@@ -129,18 +125,18 @@ fn observe(x: Track3D, seen: Class, u: Update) -> Track3D
 }
 
 // The track with the filter that a step leaves, and all else as the update leaves it.
-fn finish(x: Track3D, step: filter::Step, seen: Class, u: Update) -> TrackStep
+fn finish(x: Track3D, step: filter::Step, seen: Option<u32>, u: Update) -> TrackStep
     ensures { TrackAnswers x result (and_then (reply_of_step step) (λ f. given (observed_as u seen (with_filter f x)))) }
 {
     let outcome = step.outcome;
     let filter = step.filter;
     match outcome {
-        filter::Outcome::Done => TrackStep {
-            outcome: Outcome::Done,
+        Ok(()) => TrackStep {
+            outcome: Ok(()),
             track: observe(types::track::with_filter(x, filter), seen, u),
         },
-        filter::Outcome::Refused(why) => TrackStep {
-            outcome: Outcome::Refused(types::refusal::of_matrix(why)),
+        Err(why) => TrackStep {
+            outcome: Err(types::refusal::of_matrix(why)),
             track: x,
         },
     }
@@ -173,13 +169,13 @@ pub fn update_of(config: Cartesian3DTrackerConfig, sensor: u32, time: i64) -> Up
 
 // The track after the detection that it took, where it took one.
 pub fn update_where(x: Track3D, taken: bool, d: Detection, u: Update) -> TrackStep
-    ensures { TrackAnswers x result (updated_or_not u x (cond taken (some d) none)) }
+    ensures { TrackAnswers x result (updated_or_not u x (cond taken (Some d) None)) }
 {
     if taken {
         update_track(x, d, u)
     } else {
         TrackStep {
-            outcome: Outcome::Done,
+            outcome: Ok(()),
             track: x,
         }
     }
@@ -196,34 +192,24 @@ pub fn update_tracks(
 {
     let n = tables::taken(s.track_count, MAX_TRACKS);
     let mut tracks = s.tracks;
-    let mut i: usize = 0;
-    while i < n {
+    for i in 0..n {
         let j = mates[i];
         if j < MAX_OBSERVATIONS {
             let step = update_track(tracks[i], observations[j], u);
-            let outcome = step.outcome;
-            let y = step.track;
-            match outcome {
-                Outcome::Refused(why) => {
-                    return TrackerStep {
-                        outcome: Outcome::Refused(why),
-                        tracker: s,
-                    };
-                }
-                Outcome::Done => {
-                    tracks[i] = y;
-                    i += 1;
-                }
+            if let Err(why) = step.outcome {
+                return TrackerStep {
+                    outcome: Err(why),
+                    tracker: s,
+                };
             }
-        } else {
-            i += 1;
+            tracks[i] = step.track;
         }
     }
     let mut updated = s;
     updated.tracks = tracks;
     updated.track_count = n;
     TrackerStep {
-        outcome: Outcome::Done,
+        outcome: Ok(()),
         tracker: updated,
     }
 }

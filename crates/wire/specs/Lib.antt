@@ -1,1 +1,2 @@
 pub mod Digest
+pub mod Names

@@ -20,11 +20,9 @@ fn mix_word(digest: u64, word: u64) -> u64
 fn digest_all(words: &[u64]) -> u64
     ensures { result ≡ digest_of words.now }
 {
-    let mut value: u64 = 0;
-    let mut i: usize = 0;
-    while i < words.len() {
-        value = mix_word(value, words[i]);
-        i += 1;
+    let mut value = 0;
+    for word in words {
+        value = mix_word(value, *word);
     }
     value
 }
@@ -33,9 +31,5 @@ fn digest_all(words: &[u64]) -> u64
 pub fn digest_of(words: &[u64], n: usize) -> u64
     ensures { result ≡ digest_of (take n words.now) }
 {
-    if n < words.len() {
-        digest_all(&words[..n])
-    } else {
-        digest_all(words)
-    }
+    digest_all(&words[..n.min(words.len())])
 }

@@ -2,16 +2,16 @@
 
 pub fn number_of(b: u64) -> f64 {
     if 0x7ff0_0000_0000_0000 < b % 9223372036854775808 {
-        0.0 / 0.0
+        f64::NAN
     } else {
         f64::from_bits(b)
     }
 }
 
 pub fn bits_of(x: f64) -> u64 {
-    if x == x {
-        f64::to_bits(x)
-    } else {
+    if x.is_nan() {
         0x7ff8_0000_0000_0000
+    } else {
+        x.to_bits()
     }
 }

@@ -8,6 +8,7 @@ pub mod digests;
 pub mod floats;
 pub mod names;
 pub mod signs;
+pub mod words;
 
 use std::io;
 use std::io::{ErrorKind, Read};
@@ -15,71 +16,49 @@ use std::io::{ErrorKind, Read};
 #[derive(Clone, Copy)]
 pub struct Line {
     pub letter: u8,
-    pub first: u64,
-    pub second: u64,
-    pub third: u64,
-    pub fourth: u64,
-}
-
-#[derive(Clone, Copy)]
-pub enum Input {
-    Read(Line),
-    Ended,
+    pub numbers: [u64; 4],
 }
 
 // The value of a hexadecimal digit; 0 for any other byte.
 fn digit(c: u8) -> u64
     ensures { result < 16 }
 {
-    if 48 <= c && c <= 57 {
-        ((c - 48) % 16) as u64
-    } else if 65 <= c && c <= 70 {
-        ((c - 55) % 16) as u64
-    } else {
-        0
+    match c {
+        b'0'..=b'9' => u64::from(c - b'0'),
+        b'A'..=b'F' => u64::from(c - b'A' + 10),
+        _ => 0,
     }
 }
 
 fn glyph(d: u64) -> u8
     requires { d < 16 }
 {
-    if d < 10 { 48 + d as u8 } else { 55 + d as u8 }
+    b"0123456789ABCDEF"[d as usize]
 }
 
 // The number whose digits begin at `at`.
 fn number(l: &[u8; 70], at: usize) -> u64
     requires { at ≤ 54 }
 {
-    let mut value: u64 = 0;
-    let mut i: usize = 0;
-    while i < 16 {
-        value = value % 1152921504606846976 * 16 + digit(l[at + i]);
-        i += 1;
-    }
-    value
+    l[at..at + 16]
+        .iter()
+        .fold(0, |value, c| value % 1152921504606846976 * 16 + digit(*c))
 }
 
 fn line_of(l: &[u8; 70]) -> Line {
     Line {
         letter: l[0],
-        first: number(l, 2),
-        second: number(l, 19),
-        third: number(l, 36),
-        fourth: number(l, 53),
+        numbers: [number(l, 2), number(l, 19), number(l, 36), number(l, 53)],
     }
 }
 
 // The next line, if there is a whole one.
-pub fn read<R: Read>(reader: &mut R) -> io::Result<Input> {
-    let mut l = [0u8; 70];
+pub fn read<R: Read>(reader: &mut R) -> io::Result<Option<Line>> {
+    let mut l = [0; 70];
     match reader.read_exact(&mut l) {
-        Ok(()) => Ok(Input::Read(line_of(&l))),
-        Err(e) => {
-            if e.kind() == ErrorKind::UnexpectedEof {
-                return Ok(Input::Ended);
-            }
-            Err(e)
-        }
+        Ok(()) => Ok(Some(line_of(&l))),
+        Err(e) if e.kind() == ErrorKind::UnexpectedEof => Ok(None),
+        Err(e) => Err(e),
     }
 }
 
@@ -88,23 +67,22 @@ fn put(l: &mut [u8; 70], at: usize, value: u64)
     requires { at ≤ 54 }
 {
     let mut rest = value;
-    let mut i: usize = 16;
-    while 0 < i {
-        i -= 1;
-        l[at + i] = glyph(rest % 16);
+    for place in l[at..at + 16].iter_mut().rev() {
+        *place = glyph(rest % 16);
         rest /= 16;
     }
 }
 
 // Writes a line.
-pub fn write(rt: &impl Print, letter: u8, a: u64, b: u64, c: u64, d: u64) -> io::Result<()> {
-    let mut l = [32u8; 70];
+pub fn write(rt: &impl Print, letter: u8, numbers: [u64; 4]) -> io::Result<()> {
+    let [first, second, third, fourth] = numbers;
+    let mut l = [b' '; 70];
     l[0] = letter;
-    put(&mut l, 2, a);
-    put(&mut l, 19, b);
-    put(&mut l, 36, c);
-    put(&mut l, 53, d);
-    l[69] = 10;
+    put(&mut l, 2, first);
+    put(&mut l, 19, second);
+    put(&mut l, 36, third);
+    put(&mut l, 53, fourth);
+    l[69] = b'\n';
     rt.write_all(&l)
 }
 
@@ -112,5 +90,5 @@ pub fn write(rt: &impl Print, letter: u8, a: u64, b: u64, c: u64, d: u64) -> io:
 pub fn at_most(n: u64, limit: usize) -> usize
     ensures { result ≤ limit }
 {
-    if n < limit as u64 { n as usize } else { limit }
+    n.min(limit as u64) as usize
 }

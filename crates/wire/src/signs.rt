@@ -2,18 +2,10 @@
 
 // The signed number with these bits.
 pub fn signed(b: u64) -> i64 {
-    if b < 9223372036854775808 {
-        b as i64
-    } else {
-        -1 - ((18446744073709551615 - b) as i64)
-    }
+    i64::from_be_bytes(b.to_be_bytes())
 }
 
 // The bits of a signed number.
 pub fn bits(n: i64) -> u64 {
-    if n < 0 {
-        18446744073709551615 - ((-1 - n) as u64)
-    } else {
-        n as u64
-    }
+    u64::from_be_bytes(n.to_be_bytes())
 }

@@ -5,7 +5,7 @@ use Prim.Native.Nat.{ℕ, ◌≤◌, ◌<◌}
 use lib.ListN.{length, take}
 use native.Mathlib.Omega.{arith}
 use Rattle.association.specs.Told.{mate_of, unmatched_of, Listed}
-use Rattle.association.proofs.Telling.{listed_none, listed_skip, listed_room, listed_take, mate_taken, mate_free, listed_all}
+use Rattle.association.proofs.Telling.{listed_none, listed_skip, listed_room, listed_take, mate_taken, mate_free}
 use Rattle.association.proofs.unmatched_of.Goals as goal
 
 pub loop-i-init : goal.loop-i-init
@@ -27,9 +27,6 @@ loop-i-preserved c =
     let v = c.loop-i.invariant in
     let h = c.loop-i-test.true in
     (omega arith, listed_take _ _ c.loop-i.i (omega (arith, c.requires.0, c.requires.1)) _ _ (omega (arith, c.requires.0)) v.1 (mate_free c.args.mates.now [] c.loop-i.i c.if-mates-i-lt-MAX_OBSERVATIONS.false))
-
-pub returns : goal.returns
-returns c = listed_all _ _ c.loop-i.i c.args.n _ _ (omega (arith, c.loop-i-test.false, c.loop-i.invariant.0)) c.loop-i.invariant.1
 
 pub offset_bounds-left-count : goal.offset_bounds-left-count
 offset_bounds-left-count c = omega (arith, room _ _ _ _ _ _ c.requires.0 c.requires.1 c.loop-i-test.true c.loop-i.invariant.1)

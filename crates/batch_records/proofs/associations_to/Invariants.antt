@@ -7,6 +7,3 @@ use Rattle.batch_records.proofs.associations_to.Given as goal
 
 abbrev pub invariant-loop-i : goal.invariant-loop-i
 invariant-loop-i l = (l.i ≤ 64) × (length l.r.associations ≡ 64) × (length l.initial.out ≡ 64) × Filled association_to l.r.associations l.initial.out l.out l.i
-
-abbrev pub decreases-loop-i : goal.decreases-loop-i
-decreases-loop-i l = 64 - l.i

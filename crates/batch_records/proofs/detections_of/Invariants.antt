@@ -7,6 +7,3 @@ use Rattle.batch_records.proofs.detections_of.Given as goal
 
 abbrev pub invariant-loop-i : goal.invariant-loop-i
 invariant-loop-i l = (l.i ≤ 64) × (length l.b.detections ≡ 64) × (length l.initial.out ≡ 64) × Filled detection_of l.b.detections l.initial.out l.out l.i
-
-abbrev pub decreases-loop-i : goal.decreases-loop-i
-decreases-loop-i l = 64 - l.i

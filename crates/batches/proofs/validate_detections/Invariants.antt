@@ -6,6 +6,3 @@ use Rattle.batches.proofs.validate_detections.Given as goal
 
 abbrev pub invariant-loop-i : goal.invariant-loop-i
 invariant-loop-i l = (l.i ≤ l.n) × (length l.observations ≡ 64) × Passed l.observations l.i
-
-abbrev pub decreases-loop-i : goal.decreases-loop-i
-decreases-loop-i l = l.n - l.i

@@ -1,13 +1,10 @@
+use Rattle.std.specs.Prelude.{None}
 use mathlib.Core.Path.{◌≡◌}
-use mathlib.Core.Option.{none}
-use Prim.Native.Nat.{◌≤◌, ◌-◌}
+use Prim.Native.Nat.{◌≤◌}
 use lib.ListN.{length, take}
 use Rattle.calls.specs.Births.{nearest_from}
 use Rattle.birth_candidates.specs.Candidates.{near_of}
 use Rattle.birth_candidates.proofs.nearest.Given as goal
 
 abbrev pub invariant-loop-i : goal.invariant-loop-i
-invariant-loop-i l = (l.i ≤ l.n) × (length l.items ≡ 64) × (l.best ≡ near_of l.radius (nearest_from l.radius l.time l.d 0 none (take l.i l.items)))
-
-abbrev pub decreases-loop-i : goal.decreases-loop-i
-decreases-loop-i l = l.n - l.i
+invariant-loop-i l = (l.i ≤ l.n) × (length l.items ≡ 64) × (l.best ≡ near_of l.radius (nearest_from l.radius l.time l.d 0 None (take l.i l.items)))

@@ -17,6 +17,7 @@ use Rattle.association.specs.Told.{columns_from}
 use Rattle.birth_stage.proofs.Deciding.{fated_by}
 use Rattle.birth_stage.proofs.Walking.{Walking, walking_start, walking_taken, walking_alone, walking_begun, walking_refused, columns_length, column_at_lem, begun_room, walk_refused, walk_done, walking_end, no_pair, no_detection, no_column}
 use Rattle.birth_stage.proofs.walk.Goals as goal
+use Rattle.birth_stage.proofs.walk.Goals.{in-Alone, in-Begun}
 
 pub loop-j-init : goal.loop-j-init
 loop-j-init c =
@@ -46,26 +47,6 @@ loop-j-preserved-then-p c =
       length-set c.loop-j.associations c.loop-j.j _ ∙ v.5,
       walking_taken _ _ _ _ _ _ _ c.loop-j.s c.loop-j.kept c.loop-j.associations c.loop-j.j (get_or a.pairs c.loop-j.j no_pair) (get_or a.observations c.loop-j.j no_detection) no_column c.paired.result v.6
           (omega (arith, long, h)) (omega (arith, v.1, h)) (column_at_lem a.pairs a.observations a.m n.result v.3 v.2 n.ensures c.loop-j.j no_pair no_detection no_column h) c.if-p.true c.paired.ensures,
-    )
-
-pub loop-j-preserved-in-Alone : goal.loop-j-preserved-in-Alone
-loop-j-preserved-in-Alone c =
-    let n = c.taken-n in
-    let a = c.args in
-    let v = c.loop-j.invariant in
-    let h = c.loop-j-test.true in
-    let r = c.consider-x.result in
-    let long = columns_length a.pairs a.observations a.m n.result v.3 v.2 n.ensures in (
-      search rules,
-      v.1,
-      v.2,
-      v.3,
-      v.4,
-      length-set c.loop-j.associations c.loop-j.j _ ∙ v.5,
-      walking_alone _ _ _ _ _ _ _ c.loop-j.s c.loop-j.kept c.loop-j.associations c.loop-j.j (get_or a.pairs c.loop-j.j no_pair) (get_or a.observations c.loop-j.j no_detection) no_column v.6
-          (omega (arith, long, h)) (omega (arith, v.1, h)) (column_at_lem a.pairs a.observations a.m n.result v.3 v.2 n.ensures c.loop-j.j no_pair no_detection no_column h) c.if-p.false
-          c.taken-k.result v.4 c.taken-k.ensures r.candidates c.alone.result
-          (fated_by _ r _ c.consider-x.ensures _ c.in-Alone.is) c.alone.ensures,
     )
 
 pub offset_bounds-s-k : goal.offset_bounds-s-k
@@ -99,19 +80,35 @@ loop-j-preserved c =
     let v = c.loop-j.invariant in
     let h = c.loop-j-test.true in
     let r = c.consider-x.result in
-    let room = begun_room _ _ _ _ _ _ _ _ _ (list_of r.candidates) r.track (fated_by _ r _ c.consider-x.ensures _ c.in-Begun.is) in
-    let long = columns_length a.pairs a.observations a.m n.result v.3 v.2 n.ensures in (
-      search rules,
-      v.1,
-      v.2,
-      v.3,
-      length-set c.loop-j.s.tracks c.taken-k.result _ ∙ v.4,
-      length-set c.loop-j.associations c.loop-j.j _ ∙ v.5,
-      walking_begun _ _ _ _ _ _ _ c.loop-j.s c.loop-j.kept c.loop-j.associations c.loop-j.j (get_or a.pairs c.loop-j.j no_pair) (get_or a.observations c.loop-j.j no_detection) no_column v.6
-          (omega (arith, long, h)) (omega (arith, v.1, h)) (column_at_lem a.pairs a.observations a.m n.result v.3 v.2 n.ensures c.loop-j.j no_pair no_detection no_column h) c.if-p.false
-          c.taken-k.result v.4 c.taken-k.ensures r.candidates r.track c.begun.result room.0
-          (fated_by _ r _ c.consider-x.ensures _ c.in-Begun.is) c.begun.ensures,
-    )
+    let long = columns_length a.pairs a.observations a.m n.result v.3 v.2 n.ensures in
+    let column = column_at_lem a.pairs a.observations a.m n.result v.3 v.2 n.ensures c.loop-j.j no_pair no_detection no_column h in
+    elim c.match-x.branch [
+      | in-Alone w ↦ rw (w.associations-is, w.s-is, w.kept-is) (
+        search rules,
+        v.1,
+        v.2,
+        v.3,
+        v.4,
+        length-set c.loop-j.associations c.loop-j.j _ ∙ v.5,
+        walking_alone _ _ _ _ _ _ _ c.loop-j.s c.loop-j.kept c.loop-j.associations c.loop-j.j (get_or a.pairs c.loop-j.j no_pair) (get_or a.observations c.loop-j.j no_detection) no_column v.6
+            (omega (arith, long, h)) (omega (arith, v.1, h)) column c.if-p.false c.taken-k.result v.4 c.taken-k.ensures r.candidates w.alone.result
+            (fated_by _ r _ c.consider-x.ensures _ w.in-Alone.is) w.alone.ensures,
+      )
+      | in-Begun w ↦ rw (w.associations-is, w.s-is, w.kept-is) (
+          let fate = fated_by _ r _ c.consider-x.ensures _ w.in-Begun.is in
+          let room = begun_room _ _ _ _ _ _ _ _ _ (list_of r.candidates) r.track fate in (
+            search rules,
+            v.1,
+            v.2,
+            v.3,
+            length-set c.loop-j.s.tracks c.taken-k.result _ ∙ v.4,
+            length-set c.loop-j.associations c.loop-j.j _ ∙ v.5,
+            walking_begun _ _ _ _ _ _ _ c.loop-j.s c.loop-j.kept c.loop-j.associations c.loop-j.j (get_or a.pairs c.loop-j.j no_pair) (get_or a.observations c.loop-j.j no_detection) no_column v.6
+                (omega (arith, long, h)) (omega (arith, v.1, h)) column c.if-p.false c.taken-k.result v.4 c.taken-k.ensures r.candidates r.track w.begun.result room.0
+                fate w.begun.ensures,
+          )
+          )
+    ]
 
 pub returns-in-Refused : goal.returns-in-Refused
 returns-in-Refused c =

@@ -1,5 +1,5 @@
 use mathlib.Core.Path.{◌≡◌}
-use Prim.Native.Nat.{◌≤◌, ◌-◌}
+use Prim.Native.Nat.{◌≤◌}
 use lib.ListN.{length}
 use Rattle.types.specs.States.{state_of}
 use Rattle.calls.specs.Births.{with_candidates}
@@ -12,7 +12,4 @@ use Rattle.birth_stage.proofs.walk.Given as goal
 abbrev pub invariant-loop-j : goal.invariant-loop-j
 invariant-loop-j l =
     (l.j ≤ l.n) × (l.n ≤ 64) × (length l.observations ≡ 64) × (length l.pairs ≡ 64) × (length l.s.tracks ≡ 64) × (length l.associations ≡ 64)
-    × Walking l.t.config l.sensor l.time (places_of l.places) (columns_from l.m l.pairs l.observations) (with_candidates (list_of l.initial.kept) (state_of l.t)) l.t l.s l.kept l.associations l.j
-
-abbrev pub decreases-loop-j : goal.decreases-loop-j
-decreases-loop-j l = l.n - l.j
+    × Walking l.config l.sensor l.time (places_of l.places) (columns_from l.m l.pairs l.observations) (with_candidates (list_of l.initial.kept) (state_of l.initial.s)) l.initial.s l.s l.kept l.associations l.j

@@ -2,10 +2,10 @@ use mathlib.Core.Path.{sym}
 use Rattle.c_tracker.specs.Calls.{new_answer}
 use Rattle.c_tracker.proofs.new.Goals as goal
 
-pub returns-in-Accepted : goal.returns-in-Accepted
+pub returns-in-Ok : goal.returns-in-Ok
 unfolding new_answer
-returns-in-Accepted c = rw (sym c.validate.ensures, c.in-Accepted.is, c.fresh.ensures)
+returns-in-Ok c = rw (sym c.validate.ensures, c.in-Ok.is, c.fresh.ensures)
 
-pub returns-in-BadField : goal.returns-in-BadField
+pub returns-in-Err : goal.returns-in-Err
 unfolding new_answer
-returns-in-BadField c = rw (sym c.validate.ensures, c.in-BadField.is)
+returns-in-Err c = rw (sym c.validate.ensures, c.in-Err.is)

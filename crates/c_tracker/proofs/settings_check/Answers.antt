@@ -2,10 +2,10 @@ use mathlib.Core.Path.{sym}
 use Rattle.c_tracker.specs.Calls.{check_answer}
 use Rattle.c_tracker.proofs.settings_check.Goals as goal
 
-pub returns-in-Accepted : goal.returns-in-Accepted
+pub returns-in-Ok : goal.returns-in-Ok
 unfolding check_answer
-returns-in-Accepted c = rw (sym c.validate.ensures, c.in-Accepted.is)
+returns-in-Ok c = rw (sym c.validate.ensures, c.in-Ok.is)
 
-pub returns-in-BadField : goal.returns-in-BadField
+pub returns-in-Err : goal.returns-in-Err
 unfolding check_answer
-returns-in-BadField c = rw (sym c.validate.ensures, c.in-BadField.is)
+returns-in-Err c = rw (sym c.validate.ensures, c.in-Err.is)

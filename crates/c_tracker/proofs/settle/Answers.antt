@@ -1,7 +1,7 @@
 use Rattle.c_tracker.proofs.settle.Goals as goal
 
-pub returns-in-Done : goal.returns-in-Done
-returns-in-Done c = rw (c.in-Done.is, c.lay_over.ensures)
+pub returns-in-Ok : goal.returns-in-Ok
+returns-in-Ok c = rw (c.in-Ok.is, c.lay_over.ensures)
 
-pub returns-in-Refused : goal.returns-in-Refused
-returns-in-Refused c = rw c.in-Refused.is
+pub returns-in-Err : goal.returns-in-Err
+returns-in-Err c = rw c.in-Err.is

@@ -1,5 +1,6 @@
 -- `cascade::pair_stage` meets its contract: the names, the table of the names' rows and columns, its pairing and what is put back are those of the definition's stage.
 -- Assumes nothing.
+use Rattle.std.proofs.lemmas.Result.{err_from_is_err_and}
 use borrow.Author.Rules.{rules}
 use Rattle.cascade.proofs.Stage.{stage_fits, stage_refused, stage_done}
 use Rattle.cascade.proofs.pair_stage.Goals as goal
@@ -17,12 +18,14 @@ scatter-requires c =
     let f = stage_fits _ _ _ _ _ c.args.takers.now _ p.0 p.1 p.3 p.4 p.5 c.name_columns.ensures.done c.args.gate _ _ _ _ c.gather-r.ensures c.count_named-c.ensures in
     (p.1, f.0, p.5)
 
-pub returns-in-Done : goal.returns-in-Done
-returns-in-Done c =
+pub returns : goal.returns
+returns c =
     let p = c.requires in
-    stage_done _ _ _ _ _ _ _ p.0 p.1 p.3 p.4 p.5 c.name_columns.ensures.done c.args.gate _ _ _ _ c.gather-r.ensures c.count_named-c.ensures _ _ c.solve_front.ensures.1 c.scatter.ensures c.solve_front.result c.in-Done.is c.solve_front.ensures.0
+    stage_done _ _ _ _ _ _ _ p.0 p.1 p.3 p.4 p.5 c.name_columns.ensures.done c.args.gate _ _ _ _ c.gather-r.ensures c.count_named-c.ensures _ _ c.solve_front.ensures.1 c.scatter.ensures c.solve_front.result c.in_ok-solve_front.was c.solve_front.ensures.0
 
-pub returns-in-Refused : goal.returns-in-Refused
-returns-in-Refused c =
+pub returns-in_err-solve_front : goal.returns-in_err-solve_front
+returns-in_err-solve_front c =
     let p = c.requires in
-    stage_refused _ _ _ _ _ _ _ p.0 p.1 p.3 p.4 p.5 c.name_columns.ensures.done c.args.gate _ _ _ _ c.gather-r.ensures c.count_named-c.ensures c.solve_front.result _ _ c.in-Refused.is c.solve_front.ensures.0
+    let q = err_from_is_err_and c.from_residual.result c.from_residual.ensures.1 in
+    rw (q.1, q.2)
+    (stage_refused _ _ _ _ _ _ _ p.0 p.1 p.3 p.4 p.5 c.name_columns.ensures.done c.args.gate _ _ _ _ c.gather-r.ensures c.count_named-c.ensures c.solve_front.result _ _ c.in_err-solve_front.was c.solve_front.ensures.0)

@@ -1,4 +1,8 @@
 -- `cost_table::price_row` meets its contract: the costs of the first j detections are laid from `at` on, and the factor is that of S for the covariance at `held`. Assumes nothing.
+use Rattle.std.proofs.lemmas.Result.{err_from_is_err_and}
+use Rattle.types.specs.declared.refusal.Refusal.{Refusal}
+use Rattle.std.specs.Prelude.{Err, Float, Ok, Option, Result}
+use Rattle.cholesky.specs.declared.Lower3.{Lower3}
 use mathlib.Core.Path.{◌≡◌, refl, sym, ap, ◌∙◌, subst}
 use mathlib.Core.Bool.{Bool, true}
 use mathlib.Core.List.{List, []}
@@ -8,10 +12,8 @@ use native.Mathlib.Omega.{arith}
 use Rattle.batches.proofs.Checks.{no_detection}
 use Rattle.number.specs.Reply.{Reply}
 use Rattle.matrix.specs.Matrix.{Vector, Matrix}
-use Rattle.cholesky.specs.declared.Factor3.{Factor3}
 use Rattle.cholesky.specs.Factor.{reply_of_factor3}
 use Rattle.filter.specs.Filter.{factor_from}
-use Rattle.detections.specs.declared.Class.{Class}
 use Rattle.detections.specs.declared.pairs.PairConfig.{PairConfig}
 use Rattle.detections.specs.declared.pairs.Target.{Target}
 use Rattle.detections.specs.Pairs.{compatible}
@@ -19,7 +21,6 @@ use Rattle.pairing.specs.Rows.{price_reply}
 use Rattle.pairing.proofs.Laying.{laying_none, laying_more, laying_stops, laying_all}
 use Rattle.sightings.specs.Sights.{sight, sights_in, class_at}
 use Rattle.sightings.proofs.Sights.{sights_long, sights_at}
-use Rattle.cost_table.specs.declared.Entry.{Entry}
 use Rattle.cost_table.specs.Table.{reply_of_entry, priced_by}
 use Rattle.cost_table.proofs.Pricing.{laid_all, priced_new, priced_held}
 use Rattle.cost_table.proofs.price_row.Goals as goal
@@ -32,26 +33,26 @@ loop-j-init c = (omega arith, (λ h. absurd (never h)), laying_none _ _ _ _)
     never h = omega arith
 
 -- what is held when the detection is priced, and that it serves
-abbrev Serves : PairConfig → Target → List Vector → ℕ → Class → Factor3 → ℕ → Type 0
+abbrev Serves : PairConfig → Target → List Vector → ℕ → Option ℕ → Option Lower3 → ℕ → Type 0
 Serves rule t noises j seen f held =
     (held < 64 → reply_of_factor3 f ≡ factor_from t.expected (get_or noises held []))
     × ((z : Vector) → priced_by rule t z seen (reply_of_factor3 f) ≡ price_reply rule t (sight z (get_or noises j []) seen))
 
-module _ (rule : PairConfig) (t : Target) (noises : List Vector) (j k : ℕ) (seen : Class) (same : get_or noises k [] ≡ get_or noises j []) where
-  new_serves : (f : Factor3) (held : ℕ) → held ≡ k → reply_of_factor3 f ≡ factor_from t.expected (get_or noises j []) → Serves rule t noises j seen f held
+module _ (rule : PairConfig) (t : Target) (noises : List Vector) (j k : ℕ) (seen : Option ℕ) (same : get_or noises k [] ≡ get_or noises j []) where
+  new_serves : (f : Option Lower3) (held : ℕ) → held ≡ k → reply_of_factor3 f ≡ factor_from t.expected (get_or noises j []) → Serves rule t noises j seen f held
   new_serves f held q own = (
     (λ w. own ∙ ap (factor_from t.expected) (sym same) ∙ sym (ap (λ (i : ℕ). factor_from t.expected (get_or noises i [])) q)),
     (λ z. priced_new rule t z seen noises k j same f own),
   )
 
-  held_serves : (f f₀ : Factor3) (held held₀ : ℕ) → held ≡ held₀ → f ≡ f₀ → (held₀ < 64 → reply_of_factor3 f₀ ≡ factor_from t.expected (get_or noises held₀ [])) → k < 64 → (compatible t.class_label seen ≡ true → held₀ ≡ k)
+  held_serves : (f f₀ : Option Lower3) (held held₀ : ℕ) → held ≡ held₀ → f ≡ f₀ → (held₀ < 64 → reply_of_factor3 f₀ ≡ factor_from t.expected (get_or noises held₀ [])) → k < 64 → (compatible t.class_label seen ≡ true → held₀ ≡ k)
       → Serves rule t noises j seen f held
   held_serves f f₀ held held₀ q r v few due =
       let s : held < 64 → reply_of_factor3 f ≡ factor_from t.expected (get_or noises held []) = λ w. ap reply_of_factor3 r ∙ v (subst (λ (i : ℕ). i < 64) q w) ∙ sym (ap (λ (i : ℕ). factor_from t.expected (get_or noises i [])) q) in
       (s, (λ z. priced_held rule t z seen noises k j same f held s few (λ e. q ∙ due e)))
 
 -- the price of the detection that was read
-price_lem : (rule : PairConfig) (t : Target) (positions noises : List Vector) (labels : List ℕ) (labelled : List Bool) (m j : ℕ) (seen : Class) (f : Reply Matrix) (r : Entry) → j < m → seen ≡ class_at labels labelled j
+price_lem : (rule : PairConfig) (t : Target) (positions noises : List Vector) (labels : List ℕ) (labelled : List Bool) (m j : ℕ) (seen : Option ℕ) (f : Reply Matrix) (r : Result Float Refusal) → j < m → seen ≡ class_at labels labelled j
     → reply_of_entry r ≡ priced_by rule t (get_or positions j []) seen f → ((z : Vector) → priced_by rule t z seen f ≡ price_reply rule t (sight z (get_or noises j []) seen))
     → price_reply rule t (get_or (sights_in positions noises labels labelled m) j no_detection) ≡ reply_of_entry r
 price_lem rule t positions noises labels labelled m j seen f r h e q serves =
@@ -75,11 +76,11 @@ loop-j-preserved c =
       omega arith,
       s.0,
       laying_more _ _ _ _ c.loop-j.j _ _ no_detection _ v.2 (omega (arith, t, sights_long a.positions.now a.noises.now a.labels.now a.labelled.now a.m)) refl
-          (price_lem a.rule a.t a.positions.now a.noises.now a.labels.now a.labelled.now a.m c.loop-j.j _ _ _ t c.class_at-seen.ensures c.price.ensures s.1 ∙ ap reply_of_entry c.in-Cost.is),
+          (price_lem a.rule a.t a.positions.now a.noises.now a.labels.now a.labelled.now a.m c.loop-j.j _ _ (Ok c.in_ok-cost.cost) t c.class_at-seen.ensures c.in_ok-cost.ensures s.1),
     )
 
-pub returns-in-Refused : goal.returns-in-Refused
-returns-in-Refused c =
+pub returns-in_err-cost : goal.returns-in_err-cost
+returns-in_err-cost c =
     let a = c.args in
     let t = c.loop-j-test.true in
     let v = c.loop-j.invariant in
@@ -91,9 +92,11 @@ returns-in-Refused c =
       | else-is_due w ↦ held_serves a.rule a.t a.noises.now c.loop-j.j (get_or a.kin.now c.loop-j.j 0) c.class_at-seen.result same _ _ _ _ w.held-is w.factor-is v.1 few (c.is_due.ensures w.if-is_due.false)
     ] in
     let long = sights_long a.positions.now a.noises.now a.labels.now a.labelled.now a.m in
-    laid_all _ _ a.m _ _ _ _ long
+    let p = err_from_is_err_and c.from_residual.result c.from_residual.ensures.1 in
+    rw (p.1, p.2)
+    (laid_all _ _ a.m _ _ _ _ long
     (laying_stops _ _ _ _ a.m c.loop-j.j _ no_detection _ v.2 t (omega (arith, long))
-    (price_lem a.rule a.t a.positions.now a.noises.now a.labels.now a.labelled.now a.m c.loop-j.j _ _ _ t c.class_at-seen.ensures c.price.ensures s.1 ∙ ap reply_of_entry c.in-Refused.is))
+    (price_lem a.rule a.t a.positions.now a.noises.now a.labels.now a.labelled.now a.m c.loop-j.j _ _ (Err c.in_err-cost.field-0.0) t c.class_at-seen.ensures c.in_err-cost.ensures s.1)))
 
 pub returns : goal.returns
 returns c =

@@ -1,5 +1,5 @@
 use mathlib.Core.Path.{◌≡◌}
-use Prim.Native.Nat.{◌-◌, ◌≤◌}
+use Prim.Native.Nat.{◌≤◌}
 use lib.ListN.{length}
 use Rattle.sightings.specs.Sights.{sights_in}
 use Rattle.cost_table.proofs.Tabling.{Rows}
@@ -7,6 +7,3 @@ use Rattle.cost_table.proofs.price_rows.Given as goal
 
 abbrev pub invariant-loop-i : goal.invariant-loop-i
 invariant-loop-i l = (l.i ≤ l.n) × (length l.rows ≡ 64) × Rows l.rule l.rows (sights_in l.positions l.noises l.labels l.labelled l.m) l.initial.costs l.i l.costs
-
-abbrev pub decreases-loop-i : goal.decreases-loop-i
-decreases-loop-i l = l.n - l.i

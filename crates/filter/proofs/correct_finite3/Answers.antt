@@ -5,14 +5,14 @@ use Rattle.filter.specs.Filter.{stored}
 use Rattle.filter.proofs.Steps.{answers, stored_refused, finite_gain, infinite_gain}
 use Rattle.filter.proofs.correct_finite3.Goals as goal
 
-pub returns-then-is_finite_6x3 : goal.returns-then-is_finite_6x3
-returns-then-is_finite_6x3 c =
+pub returns-then-is_finite_matrix : goal.returns-then-is_finite_matrix
+returns-then-is_finite_matrix c =
     let test = c.before.before in
     let s = test.args in
-    answers {r = stored (finished 6 (corrected 3 6 s.u (selection 3 6 0) s.noise (estimate s.f.state s.p) s.k))} c.correct3.ensures (ap stored (finite_gain 3 6 s.u (selection 3 6 0) s.noise (estimate s.f.state s.p) s.k (sym test.is_finite_6x3.ensures ∙ c.if-is_finite_6x3.true)))
+    answers {r = stored (finished 6 (corrected 3 6 s.u (selection 3 6 0) s.noise (estimate s.f.state s.p) s.k))} c.correct3.ensures (ap stored (finite_gain 3 6 s.u (selection 3 6 0) s.noise (estimate s.f.state s.p) s.k (sym test.is_finite_matrix.ensures ∙ c.if-is_finite_matrix.true)))
 
-pub returns-else-is_finite_6x3 : goal.returns-else-is_finite_6x3
-returns-else-is_finite_6x3 c =
+pub returns-else-is_finite_matrix : goal.returns-else-is_finite_matrix
+returns-else-is_finite_matrix c =
     let test = c.before.before in
     let s = test.args in
-    answers c.refuse.ensures (stored_refused 9 ∙ ap stored (infinite_gain 3 6 s.u (selection 3 6 0) s.noise (estimate s.f.state s.p) s.k (sym test.is_finite_6x3.ensures ∙ c.if-is_finite_6x3.false)))
+    answers c.refuse.ensures (stored_refused 9 ∙ ap stored (infinite_gain 3 6 s.u (selection 3 6 0) s.noise (estimate s.f.state s.p) s.k (sym test.is_finite_matrix.ensures ∙ c.if-is_finite_matrix.false)))

@@ -10,4 +10,4 @@ pub returns : goal.returns
 unfolding distance_with
 returns c =
     let own = c.before in
-    c.distance_by_factor3.ensures ∙ ap (λ (u : Vector). and_then (reply_of_factor3 own.args.factor) (λ l. distance_by 3 l u)) own.sub3.ensures
+    c.distance_by_factor3.ensures ∙ ap (λ (u : Vector). and_then (reply_of_factor3 own.args.factor) (λ l. distance_by 3 l u)) own.minus.ensures

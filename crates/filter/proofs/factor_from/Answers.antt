@@ -9,5 +9,5 @@ unfolding factor_from
 returns c =
     let own = c.before in
     let noise = own.before in
-    let s = own.symmetrized_sum3.ensures ∙ (λ i. symmetrized 3 (plus 3 3 (noise.rows_3x3.ensures i) (noise.rows_3x3-2.ensures i))) in
+    let s = own.symmetrized_sum.ensures ∙ (λ i. symmetrized 3 (plus 3 3 (noise.rows.ensures i) (noise.rows-2.ensures i))) in
     c.cholesky3.ensures ∙ (λ i. cholesky 3 (s i))

@@ -8,4 +8,4 @@ unfolding innovation
 returns c =
     let seen = c.before in
     let s = seen.args in
-    c.sub2.ensures ∙ ap (minus_vector 2 s.z) seen.velocity.ensures
+    c.minus.ensures ∙ ap (minus_vector 2 s.z) seen.velocity.ensures

@@ -8,4 +8,4 @@ unfolding innovation
 returns c =
     let seen = c.before in
     let s = seen.args in
-    c.sub3.ensures ∙ ap (minus_vector 3 s.z) seen.position.ensures
+    c.minus.ensures ∙ ap (minus_vector 3 s.z) seen.position.ensures

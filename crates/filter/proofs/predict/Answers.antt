@@ -6,9 +6,9 @@ use Rattle.filter.specs.Filter.{estimate_of, stored, predicted}
 use Rattle.filter.proofs.Steps.{answers, stored_refused, finite_noise, infinite_noise}
 use Rattle.filter.proofs.predict.Goals as goal
 
-pub returns-then-is_finite_6x6 : goal.returns-then-is_finite_6x6
+pub returns-then-is_finite_matrix : goal.returns-then-is_finite_matrix
 unfolding predicted
-returns-then-is_finite_6x6 c =
+returns-then-is_finite_matrix c =
     let test = c.before.before in
     let made = test.before in
     let s = made.args in
@@ -16,14 +16,14 @@ returns-then-is_finite_6x6 c =
     let q : made.cv_q6-noise.result ≡ noise 3 s.dt s.q = made.cv_q6-noise.ensures in
     answers c.move_by.ensures
     ((λ i. stored (finished 6 (moved 6 f (q i) (estimate_of s.f))))
-    ∙ ap stored (finite_noise 6 f (noise 3 s.dt s.q) (estimate_of s.f) (ap (finite_matrix 6 6) (sym q) ∙ sym test.is_finite_6x6.ensures ∙ c.if-is_finite_6x6.true)))
+    ∙ ap stored (finite_noise 6 f (noise 3 s.dt s.q) (estimate_of s.f) (ap (finite_matrix 6 6) (sym q) ∙ sym test.is_finite_matrix.ensures ∙ c.if-is_finite_matrix.true)))
 
-pub returns-else-is_finite_6x6 : goal.returns-else-is_finite_6x6
+pub returns-else-is_finite_matrix : goal.returns-else-is_finite_matrix
 unfolding predicted
-returns-else-is_finite_6x6 c =
+returns-else-is_finite_matrix c =
     let test = c.before.before in
     let made = test.before in
     let s = made.args in
     answers c.refuse.ensures
     (stored_refused 5
-    ∙ ap stored (infinite_noise 6 (transition 3 s.dt) (noise 3 s.dt s.q) (estimate_of s.f) (ap (finite_matrix 6 6) (sym made.cv_q6-noise.ensures) ∙ sym test.is_finite_6x6.ensures ∙ c.if-is_finite_6x6.false)))
+    ∙ ap stored (infinite_noise 6 (transition 3 s.dt) (noise 3 s.dt s.q) (estimate_of s.f) (ap (finite_matrix 6 6) (sym made.cv_q6-noise.ensures) ∙ sym test.is_finite_matrix.ensures ∙ c.if-is_finite_matrix.false)))

@@ -10,5 +10,5 @@ returns c =
     let own = c.before in
     let rows = own.before in
     let s = rows.args in
-    let p = own.velocity_spread.ensures ∙ ap (congruence 2 6 (selection 2 6 3)) rows.rows_6x6-p.ensures in
-    c.symmetrized_sum2.ensures ∙ ap (λ m. symmetrized 2 (plus 2 2 m s.noise)) p
+    let p = own.velocity_spread.ensures ∙ ap (congruence 2 6 (selection 2 6 3)) rows.rows-p.ensures in
+    c.symmetrized_sum.ensures ∙ ap (λ m. symmetrized 2 (plus 2 2 m s.noise)) p

@@ -7,4 +7,4 @@ pub returns : goal.returns
 unfolding spread
 returns c =
     let own = c.before in
-    c.symmetrized_sum3.ensures ∙ ap (λ m. symmetrized 3 (plus 3 3 m own.args.noise)) own.position_spread.ensures
+    c.symmetrized_sum.ensures ∙ ap (λ m. symmetrized 3 (plus 3 3 m own.args.noise)) own.position_spread.ensures

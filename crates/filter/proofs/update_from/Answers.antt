@@ -14,7 +14,7 @@ returns c =
     let rows = own.before in
     let beyond = rows.before in
     let s = beyond.args in
-    let u : beyond.sub3-u.result ≡ innovation_from s.m s.z = beyond.sub3-u.ensures in
-    let r : rows.rows_3x3-rows.result ≡ rows_of 3 3 s.noise = rows.rows_3x3-rows.ensures in
-    let t : c.symmetrized_sum3-s.result ≡ spread_from s.m s.noise = c.symmetrized_sum3-s.ensures ∙ (λ i. symmetrized 3 (plus 3 3 (own.rows_3x3.ensures i) (rows.rows_3x3-rows.ensures i))) in
+    let u : beyond.minus-u.result ≡ innovation_from s.m s.z = beyond.minus-u.ensures in
+    let r : rows.rows-rows.result ≡ rows_of 3 3 s.noise = rows.rows-rows.ensures in
+    let t : c.symmetrized_sum-s.result ≡ spread_from s.m s.noise = c.symmetrized_sum-s.ensures ∙ (λ i. symmetrized 3 (plus 3 3 (own.rows.ensures i) (rows.rows-rows.ensures i))) in
     answers c.measure3.ensures (λ i. stored (measured_by 3 6 (u i) (t i) (selection 3 6 0) (r i) (estimate_of s.f)))

@@ -8,9 +8,9 @@ use Rattle.filter.specs.Filter.{estimate_of, stored, updated_by_velocity}
 use Rattle.filter.proofs.Steps.{answers, stored_refused, by_factor, check_passed, check_refused, check_infinite}
 use Rattle.filter.proofs.update_velocity.Goals as goal
 
-pub returns-in-Valid : goal.returns-in-Valid
+pub returns-in-Ok : goal.returns-in-Ok
 unfolding updated_by_velocity update_reply measured
-returns-in-Valid c =
+returns-in-Ok c =
     let told = c.before in
     let valid = told.before in
     let test = valid.before.before in
@@ -23,12 +23,12 @@ returns-in-Valid c =
     answers c.measure_by2.ensures
     (ap stored (by_factor 2 6 beyond.innovation2-u.result (selection 2 6 3) r (estimate_of s.f) own.spread2.result (reply_of_factor2 factor.cholesky2-factor.result) factor.cholesky2-factor.ensures
     ∙ (λ i. measured_by 2 6 (beyond.innovation2-u.ensures i) (own.spread2.ensures i) (selection 2 6 3) r (estimate_of s.f))
-    ∙ check_passed 2 s.v r (measured 2 6 s.v (selection 2 6 3) r (estimate_of s.f)) (sym test.is_finite2.ensures ∙ valid.if-is_finite2.true) (ap reply_of_validity (sym told.in-Valid.is) ∙ valid.validate_isotropic2.ensures ∙ ap (validated 2) (sym made.velocity_r2-noise.ensures)))
+    ∙ check_passed 2 s.v r (measured 2 6 s.v (selection 2 6 3) r (estimate_of s.f)) (sym test.is_finite_vector.ensures ∙ valid.if-is_finite_vector.true) (ap reply_of_validity (sym told.in-Ok.is) ∙ valid.validate_isotropic2.ensures ∙ ap (validated 2) (sym made.velocity_r2-noise.ensures)))
     ∙ ap (λ (r : Matrix). stored (update_reply 2 6 s.v (selection 2 6 3) r (estimate_of s.f))) made.velocity_r2-noise.ensures)
 
-pub returns-in-Refused : goal.returns-in-Refused
+pub returns-in-Err : goal.returns-in-Err
 unfolding updated_by_velocity update_reply
-returns-in-Refused c =
+returns-in-Err c =
     let found = c in
     let valid = found.before in
     let test = valid.before.before in
@@ -37,17 +37,17 @@ returns-in-Refused c =
     let r = made.velocity_r2-noise.result in
     answers c.refuse.ensures
     (stored_refused _
-    ∙ ap stored (check_refused 2 s.v r (measured 2 6 s.v (selection 2 6 3) r (estimate_of s.f)) (sym test.is_finite2.ensures ∙ valid.if-is_finite2.true) (ap reply_of_validity (sym found.in-Refused.is) ∙ valid.validate_isotropic2.ensures ∙ ap (validated 2) (sym made.velocity_r2-noise.ensures)))
+    ∙ ap stored (check_refused 2 s.v r (measured 2 6 s.v (selection 2 6 3) r (estimate_of s.f)) (sym test.is_finite_vector.ensures ∙ valid.if-is_finite_vector.true) (ap reply_of_validity (sym found.in-Err.is) ∙ valid.validate_isotropic2.ensures ∙ ap (validated 2) (sym made.velocity_r2-noise.ensures)))
     ∙ ap (λ (r : Matrix). stored (update_reply 2 6 s.v (selection 2 6 3) r (estimate_of s.f))) made.velocity_r2-noise.ensures)
 
-pub returns-else-is_finite2 : goal.returns-else-is_finite2
+pub returns-else-is_finite_vector : goal.returns-else-is_finite_vector
 unfolding updated_by_velocity update_reply
-returns-else-is_finite2 c =
+returns-else-is_finite_vector c =
     let test = c.before.before in
     let made = test.before.before.before.before in
     let s = made.args in
     let r = made.velocity_r2-noise.result in
-    answers c.refuse-else-is_finite2.ensures
+    answers c.refuse-else-is_finite_vector.ensures
     (stored_refused 5
-    ∙ ap stored (check_infinite 2 s.v r (measured 2 6 s.v (selection 2 6 3) r (estimate_of s.f)) (sym test.is_finite2.ensures ∙ c.if-is_finite2.false))
+    ∙ ap stored (check_infinite 2 s.v r (measured 2 6 s.v (selection 2 6 3) r (estimate_of s.f)) (sym test.is_finite_vector.ensures ∙ c.if-is_finite_vector.false))
     ∙ ap (λ (r : Matrix). stored (update_reply 2 6 s.v (selection 2 6 3) r (estimate_of s.f))) made.velocity_r2-noise.ensures)

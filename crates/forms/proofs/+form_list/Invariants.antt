@@ -10,8 +10,8 @@ decreases-form l = l.depth + l.depth
 abbrev pub decreases-list : goal.decreases-list
 decreases-list l = l.depth + l.depth + 1
 
-abbrev pub invariant-list-loop-e : goal.invariant-list-loop-e
-invariant-list-loop-e l = list_of l.depth (drop l.i l.s) ≡ list_of l.depth (drop l.fn.at l.s)
+abbrev pub invariant-list-loop-end : goal.invariant-list-loop-end
+invariant-list-loop-end l = list_of l.depth (drop l.i l.s) ≡ list_of l.depth (drop l.fn.at l.s)
 
-abbrev pub decreases-list-loop-e : goal.decreases-list-loop-e
-decreases-list-loop-e l = length l.s - l.i
+abbrev pub decreases-list-loop-end : goal.decreases-list-loop-end
+decreases-list-loop-end l = length l.s - l.i

@@ -1,3 +1,4 @@
+use mathlib.Core.Path.{sym}
 use native.Mathlib.Omega.{arith}
 use Rattle.hungarian.proofs.Replies.{rows_over, columns_over, size_bad, run_failed, run_given}
 use Rattle.hungarian.proofs.solve.Goals as goal
@@ -14,8 +15,8 @@ returns-then-costs-q c = let s = c in size_bad s.args.costs.now s.args.q (omega 
 pub hungarian_square-requires : goal.hungarian_square-requires
 hungarian_square-requires c = let s = c in (omega (arith, c.if-q-gt64.false), omega (arith, c.if-q-gt64-2.false), c.if-costs-q.false)
 
-pub returns-then-hungarian_square-ne0 : goal.returns-then-hungarian_square-ne0
-returns-then-hungarian_square-ne0 c = let s = c in run_failed s.args.costs.now s.args.q (omega (arith, c.if-q-gt64.false)) (omega (arith, c.if-q-gt64-2.false)) c.if-costs-q.false _ _ _ c.if-hungarian_square-ne0.true c.hungarian_square.ensures
+pub returns-then-is_err : goal.returns-then-is_err
+returns-then-is_err c = run_failed c.args.costs.now c.args.q (omega (arith, c.if-q-gt64.false)) (omega (arith, c.if-q-gt64-2.false)) c.if-costs-q.false _ _ _ (sym c.if-is_err.ensures.value) c.hungarian_square.ensures
 
 pub returns : goal.returns
-returns c = let s = c in run_given s.args.costs.now s.args.q (omega (arith, c.if-q-gt64.false)) (omega (arith, c.if-q-gt64-2.false)) c.if-costs-q.false _ _ _ c.if-hungarian_square-ne0.false c.hungarian_square.ensures
+returns c = run_given c.args.costs.now c.args.q (omega (arith, c.if-q-gt64.false)) (omega (arith, c.if-q-gt64-2.false)) c.if-costs-q.false _ _ _ (sym c.if-is_err.ensures.value) c.hungarian_square.ensures

@@ -4,12 +4,12 @@ use Rattle.text.proofs.Texts.{wrote_in}
 use Rattle.line.proofs.Lines.{not_formed, by_request}
 use Rattle.line.proofs.answer.Goals as goal
 
-pub returns-then-not-is_formed : goal.returns-then-not-is_formed
-returns-then-not-is_formed c =
+pub returns-else-is_formed : goal.returns-else-is_formed
+returns-else-is_formed c =
     let input = c.args.input.now in
     wrote_in _ (not_formed input (search rules)) c.write_refusal.ensures
 
-pub returns : goal.returns
-returns c =
+pub returns-then-is_formed : goal.returns-then-is_formed
+returns-then-is_formed c =
     let input = c.args.input.now in
     wrote_in _ (by_request input (search rules)) c.decide.ensures

@@ -1,28 +1,21 @@
--- Each branch is one way in which the bytes behind the form are a newline and no more, or not.
-use mathlib.Core.Path.{sym, ap, ◌∙◌}
-use Rattle.forms.specs.Shape.{reply_of_read}
-use Rattle.line.proofs.Lines.{formed_long, formed_none, formed_ends, formed_more, formed_last}
+-- The bytes behind the form are a newline and no more, or not.
+use Rattle.std.proofs.Common.{ap, ◌∙◌, List, [], ◌∷◌, ℕ, ◌-◌, arith, length, take, drop, length-drop, eqb}
+use Rattle.std.specs.Cmp.Lexicographic.{pointwise}
+use lib.Seq.{take_all}
+use Rattle.line.proofs.Lines.{formed_long, formed_none, formed_end}
 use Rattle.line.proofs.is_formed.Goals as goal
 
-pub returns-then-input-gt16384 : goal.returns-then-input-gt16384
-returns-then-input-gt16384 c = formed_long c.args.input.now c.if-input-gt16384.true
+pub returns-then-input-gt-LONGEST : goal.returns-then-input-gt-LONGEST
+returns-then-input-gt-LONGEST c = formed_long c.args.input.now c.if-input-gt-LONGEST.true
 
-pub returns-then-input-e : goal.returns-then-input-e
-returns-then-input-e c =
-    let input = c.args.input.now in
-    formed_ends input c.if-input-gt16384.false c.in-Next.e (sym (ap reply_of_read c.in-Next.is) ∙ c.form.ensures) c.if-input-e.true
+pub returns-in-None : goal.returns-in-None
+returns-in-None c = formed_none c.args.input.now c.if-input-gt-LONGEST.false c.in-None.ensures
 
-pub returns-then-input-e-ne1 : goal.returns-then-input-e-ne1
-returns-then-input-e-ne1 c =
-    let input = c.args.input.now in
-    formed_more input c.if-input-gt16384.false c.in-Next.e (sym (ap reply_of_read c.in-Next.is) ∙ c.form.ensures) c.if-input-e-ne1.true
-
-pub returns-in-Refused : goal.returns-in-Refused
-returns-in-Refused c =
-    let input = c.args.input.now in
-    formed_none input c.if-input-gt16384.false (sym (ap reply_of_read c.in-Refused.is) ∙ c.form.ensures)
-
-pub returns-else-input-e-ne1 : goal.returns-else-input-e-ne1
-returns-else-input-e-ne1 c =
-    let input = c.args.input.now in
-    formed_last input c.if-input-gt16384.false c.in-Next.e (sym (ap reply_of_read c.in-Next.is) ∙ c.form.ensures) c.if-input-e-ne1.false
+pub returns-in-Some : goal.returns-in-Some
+returns-in-Some c =
+    let s = c.args.input.now in
+    let e = c.in-Some.end in
+    c.eq.ensures
+    ∙ ap (λ (t : List ℕ). pointwise eqb (take (length s - e) (drop e s)) t) c.as_slice.ensures
+    ∙ ap (λ (l : List ℕ). pointwise eqb l (10 ∷ [])) (take_all (length s - e) (drop e s) (simp length-drop (omega arith)))
+    ∙ formed_end s c.if-input-gt-LONGEST.false e c.in-Some.ensures

@@ -23,16 +23,16 @@ pub pair_cascade-requires : goal.pair_cascade-requires
 pair_cascade-requires c =
     (c.requires.0, c.requires.1, c.requires.2, laid_long _ _ _ _ _ c.mark_recent.ensures, c.requires.3, sized _ c.requires.3)
 
-pub returns-in-Done : goal.returns-in-Done
-returns-in-Done c =
+pub returns-in-Ok : goal.returns-in-Ok
+returns-in-Ok c =
     let long : length c.args.rows ≡ 64 = search (rules, length_mapped) in
     recent_done c.args.window c.args.time _ c.args.n (replicate 64 false) _ (rows_long c.args.rows c.args.n long c.requires.0) c.requires.0 c.mark_recent.result
     (rw (to_z-of_z c.ranges.time, to_z-of_z c.ranges.window) at c.mark_recent.ensures)
-    c.args.gate _ c.args.m c.in-Done.is _ _ _ c.pair_cascade.ensures
+    c.args.gate _ c.args.m c.in-Ok.is _ _ _ c.pair_cascade.ensures
 
-pub returns-in-Refused : goal.returns-in-Refused
-returns-in-Refused c =
+pub returns-in-Err : goal.returns-in-Err
+returns-in-Err c =
     let long : length c.args.rows ≡ 64 = search (rules, length_mapped) in
     recent_stops c.args.window c.args.time _ c.args.n (replicate 64 false) _ (rows_long c.args.rows c.args.n long c.requires.0) c.requires.0 c.mark_recent.result
     (rw (to_z-of_z c.ranges.time, to_z-of_z c.ranges.window) at c.mark_recent.ensures)
-    c.args.gate _ c.args.m _ c.in-Refused.is _ (sized _ c.requires.3)
+    c.args.gate _ c.args.m _ c.in-Err.is _ (sized _ c.requires.3)

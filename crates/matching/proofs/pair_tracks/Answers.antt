@@ -11,7 +11,6 @@ use borrow.Author.Rules.{rules}
 use Rattle.lists.proofs.Laying.{length_mapped, length_lay}
 use Rattle.lists.specs.Lay.{lay}
 use Rattle.matrix.specs.Matrix.{nought}
-use Rattle.settings.specs.Optional.{i64_of}
 use Rattle.pairing.specs.declared.Row.{Row}
 use Rattle.pairing.specs.Rows.{ids_of}
 use Rattle.pairing.proofs.Rows.{lay_read}
@@ -31,25 +30,25 @@ assign_front-requires c =
     let wide : c.taken-columns.result ≤ 64 = omega (arith, c.taken-columns.ensures) in
     (few, wide, omega (arith, table_long _ _ _ _ (replicate 4096 nought) _ c.price_table.ensures, fresh, mul-le-mul_right c.taken-columns.result few, wide), search rules)
 
-pub returns-in-Refused : goal.returns-in-Refused
-returns-in-Refused c =
+pub returns-in-Err : goal.returns-in-Err
+returns-in-Err c =
     let long : length c.args.rows ≡ 64 = search (rules, length_mapped) in
     let seen : length c.args.seen ≡ 64 = search (rules, length_mapped) in
     let few : c.taken-count.result ≤ 64 = omega (arith, c.taken-count.ensures) in
     let wide : c.taken-columns.result ≤ 64 = omega (arith, c.taken-columns.ensures) in
-    by_counts _ (i64_of c.args.window) c.args.time c.args.rows c.args.seen long seen c.args.n c.args.m _ _ c.taken-count.ensures c.taken-columns.ensures _
-    (stage_unpriced _ _ _ c.taken-count.result c.taken-columns.result long seen few wide (i64_of c.args.window) c.args.time (replicate 4096 nought) fresh
-    c.price_table.result _ c.price_table.ensures _ c.in-Refused.is _ c.refuse.ensures)
+    by_counts _ (c.args.window) c.args.time c.args.rows c.args.seen long seen c.args.n c.args.m _ _ c.taken-count.ensures c.taken-columns.ensures _
+    (stage_unpriced _ _ _ c.taken-count.result c.taken-columns.result long seen few wide (c.args.window) c.args.time (replicate 4096 nought) fresh
+    c.price_table.result _ c.price_table.ensures _ c.in-Err.is _ c.refuse.ensures)
 
-pub returns-in-Refused-assign_front : goal.returns-in-Refused-assign_front
-returns-in-Refused-assign_front c =
+pub returns-in-Err-assign_front : goal.returns-in-Err-assign_front
+returns-in-Err-assign_front c =
     let long : length c.args.rows ≡ 64 = search (rules, length_mapped) in
     let seen : length c.args.seen ≡ 64 = search (rules, length_mapped) in
     let few : c.taken-count.result ≤ 64 = omega (arith, c.taken-count.ensures) in
     let wide : c.taken-columns.result ≤ 64 = omega (arith, c.taken-columns.ensures) in
-    by_counts _ (i64_of c.args.window) c.args.time c.args.rows c.args.seen long seen c.args.n c.args.m _ _ c.taken-count.ensures c.taken-columns.ensures _
-    (stage_unpaired _ _ _ c.taken-count.result c.taken-columns.result long seen few wide (i64_of c.args.window) c.args.time (replicate 4096 nought) fresh
-    c.price_table.result _ c.price_table.ensures c.in-Done.is _ c.assign_front.result (rw (to_z-of_z c.ranges.time) at c.assign_front.ensures) _ c.in-Refused-assign_front.is _ c.refuse-in-Refused-assign_front.ensures)
+    by_counts _ (c.args.window) c.args.time c.args.rows c.args.seen long seen c.args.n c.args.m _ _ c.taken-count.ensures c.taken-columns.ensures _
+    (stage_unpaired _ _ _ c.taken-count.result c.taken-columns.result long seen few wide (c.args.window) c.args.time (replicate 4096 nought) fresh
+    c.price_table.result _ c.price_table.ensures c.in-Ok.is _ c.assign_front.result (rw (to_z-of_z c.ranges.time) at c.assign_front.ensures) _ c.in-Err-assign_front.is _ c.refuse-in-Err-assign_front.ensures)
 
 -- the numbers of the rows
 module _ (n : ℕ) (all : List Row) (ids : List ℕ) (long : length all ≡ 64) (is : ids ≡ lay (take n (ids_of all)) (replicate 64 0)) where
@@ -62,15 +61,15 @@ module _ (n : ℕ) (all : List Row) (ids : List ℕ) (long : length all ≡ 64) 
   ids_read : take n ids ≡ take n (ids_of all)
   ids_read = ap (take n) is ∙ lay_read n (ids_of all) (replicate 64 0) numbered
 
-pub returns-in-Done-assign_front : goal.returns-in-Done-assign_front
-returns-in-Done-assign_front c =
+pub returns-in-Ok-assign_front : goal.returns-in-Ok-assign_front
+returns-in-Ok-assign_front c =
     let long : length c.args.rows ≡ 64 = search (rules, length_mapped) in
     let seen : length c.args.seen ≡ 64 = search (rules, length_mapped) in
     let few : c.taken-count.result ≤ 64 = omega (arith, c.taken-count.ensures) in
     let wide : c.taken-columns.result ≤ 64 = omega (arith, c.taken-columns.ensures) in
-    by_counts _ (i64_of c.args.window) c.args.time c.args.rows c.args.seen long seen c.args.n c.args.m _ _ c.taken-count.ensures c.taken-columns.ensures _
-    (stage_told _ _ _ c.taken-count.result c.taken-columns.result long seen few wide (i64_of c.args.window) c.args.time (replicate 4096 nought) fresh
-    c.price_table.result _ c.price_table.ensures c.in-Done.is _ c.assign_front.result (rw (to_z-of_z c.ranges.time) at c.assign_front.ensures) c.in-Done-assign_front.is c.ids_of-ids.result (ids_read c.taken-count.result c.args.rows c.ids_of-ids.result long c.ids_of-ids.ensures) _ c.tell.ensures)
+    by_counts _ (c.args.window) c.args.time c.args.rows c.args.seen long seen c.args.n c.args.m _ _ c.taken-count.ensures c.taken-columns.ensures _
+    (stage_told _ _ _ c.taken-count.result c.taken-columns.result long seen few wide (c.args.window) c.args.time (replicate 4096 nought) fresh
+    c.price_table.result _ c.price_table.ensures c.in-Ok.is _ c.assign_front.result (rw (to_z-of_z c.ranges.time) at c.assign_front.ensures) c.in-Ok-assign_front.is c.ids_of-ids.result (ids_read c.taken-count.result c.args.rows c.ids_of-ids.result long c.ids_of-ids.ensures) _ c.tell.ensures)
 
 pub ids_of-ids-requires : goal.ids_of-ids-requires
 ids_of-ids-requires c = omega (arith, c.taken-count.ensures)

@@ -7,12 +7,12 @@ pub returns-in-Dropped : goal.returns-in-Dropped
 returns-in-Dropped c =
     carry_drops _ _ _ _ (rw (to_z-of_z c.ranges.time) at (life_ends _ _ _ _ c.advance_track-aged.ensures c.in-Dropped.is))
 
-pub returns-in-Refused : goal.returns-in-Refused
-returns-in-Refused c =
+pub returns-in-Err : goal.returns-in-Err
+returns-in-Err c =
     carry_moves _ _ _ _ _ _ (rw (to_z-of_z c.ranges.time) at (life_goes_on _ _ _ _ c.advance_track-aged.ensures c.in-Kept.is))
-    (rw (to_z-of_z c.ranges.time) at (step_refuses c.move_track-step.ensures c.in-Refused.why c.in-Refused.is))
+    (rw (to_z-of_z c.ranges.time) at (step_refuses c.move_track-step.ensures c.in-Err.why c.in-Err.is))
 
-pub returns-in-Done : goal.returns-in-Done
-returns-in-Done c =
+pub returns-in-Ok : goal.returns-in-Ok
+returns-in-Ok c =
     carry_moves _ _ _ _ _ _ (rw (to_z-of_z c.ranges.time) at (life_goes_on _ _ _ _ c.advance_track-aged.ensures c.in-Kept.is))
-    (rw (to_z-of_z c.ranges.time) at (step_given c.move_track-step.ensures c.in-Done.is))
+    (rw (to_z-of_z c.ranges.time) at (step_given c.move_track-step.ensures c.in-Ok.is))

@@ -15,17 +15,17 @@ returns-then-x-time c =
     let fits : SFits w64 a.x.state_timestamp = search rules in
     carries_out (there a.density a.time a.x (same_of a.x.state_timestamp a.time fits c.ranges.time c.if-x-time.true))
 
-pub returns-in-Overflow : goal.returns-in-Overflow
-returns-in-Overflow c =
+pub returns-in-None : goal.returns-in-None
+returns-in-None c =
     let a = c.args in
     let fits : SFits w64 a.x.state_timestamp = search rules in
-    refuses (too_far a.density a.time a.x (other_of a.x.state_timestamp a.time c.if-x-time.false) (ap reply_of_duration (sym c.in-Overflow.is) ∙ (rw (to_z-of_z c.ranges.time, to_z-of_z fits) at c.checked_duration_since.ensures)))
+    refuses (too_far a.density a.time a.x (other_of a.x.state_timestamp a.time c.if-x-time.false) (ap reply_of_duration (sym c.in-None.is) ∙ (rw (to_z-of_z c.ranges.time, to_z-of_z fits) at c.checked_duration_since.ensures)))
 
-pub returns-in-Nanoseconds : goal.returns-in-Nanoseconds
-returns-in-Nanoseconds c =
+pub returns-in-Some : goal.returns-in-Some
+returns-in-Some c =
     let a = c.args in
     let fits : SFits w64 a.x.state_timestamp = search rules in
-    let dt = c.in-Nanoseconds.dt in
+    let dt = c.in-Some.dt in
     let g : SFits w64 dt = search rules in
     answers (rw (to_z-of_z g, to_z-of_z c.ranges.time) at c.move_by.ensures)
-    (away a.density a.time a.x dt (other_of a.x.state_timestamp a.time c.if-x-time.false) (ap reply_of_duration (sym c.in-Nanoseconds.is) ∙ (rw (to_z-of_z c.ranges.time, to_z-of_z fits) at c.checked_duration_since.ensures)))
+    (away a.density a.time a.x dt (other_of a.x.state_timestamp a.time c.if-x-time.false) (ap reply_of_duration (sym c.in-Some.is) ∙ (rw (to_z-of_z c.ranges.time, to_z-of_z fits) at c.checked_duration_since.ensures)))

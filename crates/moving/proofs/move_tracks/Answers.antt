@@ -13,20 +13,10 @@ use Rattle.moving.specs.Steps.{fate_of, moved_tracks}
 use Rattle.moving.proofs.Passing.{passed_start, passed_drop, passed_keep, passed_stops}
 use Rattle.moving.proofs.Tracks.{drops, keeps, stops, carries_out, refuses, all_stop, all_moved}
 use Rattle.moving.proofs.move_tracks.Goals as goal
+use Rattle.moving.proofs.move_tracks.Goals.{in-Dropped, in-Kept}
 
 pub loop-i-init : goal.loop-i-init
 loop-i-init c = (search rules, omega (arith, c.taken-n.ensures), search (rules, length_mapped), search rules, passed_start _ _ _)
-
-pub loop-i-preserved-in-Dropped : goal.loop-i-preserved-in-Dropped
-loop-i-preserved-in-Dropped c =
-    let v = c.loop-i.invariant in
-    let r = c.carry-c.result in (
-      search rules,
-      v.1,
-      v.2,
-      omega arith,
-      passed_drop _ _ _ _ _ _ no_track v.4 (omega arith) (drops _ _ _ _ (sym c.carry-c.ensures ∙ ap (λ (f : Fate). fate_of f r.track) c.in-Dropped.is)),
-    )
 
 pub returns-in-Refused : goal.returns-in-Refused
 returns-in-Refused c =
@@ -42,13 +32,24 @@ pub loop-i-preserved : goal.loop-i-preserved
 loop-i-preserved c =
     let v = c.loop-i.invariant in
     let r = c.carry-c.result in
-    let m = keeps _ _ _ _ _ (sym c.carry-c.ensures ∙ ap (λ (f : Fate). fate_of f r.track) c.in-Kept.is) in (
-      search rules,
-      v.1,
-      v.2,
-      omega arith,
-      passed_keep _ _ _ _ _ _ no_track _ _ v.4 (omega arith) m.goes_on m.moves,
-    )
+    elim c.match-c.branch [
+      | in-Dropped w ↦ rw (w.tracks-is, w.kept-is) (
+        search rules,
+        v.1,
+        v.2,
+        omega arith,
+        passed_drop _ _ _ _ _ _ no_track v.4 (omega arith) (drops _ _ _ _ (sym c.carry-c.ensures ∙ ap (λ (f : Fate). fate_of f r.track) w.in-Dropped.is)),
+      )
+      | in-Kept w ↦ rw (w.tracks-is, w.kept-is) (
+          let m = keeps _ _ _ _ _ (sym c.carry-c.ensures ∙ ap (λ (f : Fate). fate_of f r.track) w.in-Kept.is) in (
+            search rules,
+            v.1,
+            v.2,
+            omega arith,
+            passed_keep _ _ _ _ _ _ no_track _ _ v.4 (omega arith) m.goes_on m.moves,
+          )
+          )
+    ]
 
 pub returns : goal.returns
 returns c =

@@ -1,5 +1,5 @@
 use mathlib.Core.Path.{◌≡◌}
-use Prim.Native.Nat.{◌≤◌, ◌-◌}
+use Prim.Native.Nat.{◌≤◌}
 use lib.ListN.{length}
 use Rattle.calls.specs.Predict.{continued, moved}
 use Rattle.moving.proofs.Passing.{Passed}
@@ -12,6 +12,3 @@ invariant-loop-i l =
     × (length l.initial.tracks ≡ 64)
     × (l.kept ≤ l.i)
     × Passed (continued l.life l.time) (moved l.density l.time) l.initial.tracks l.tracks l.i l.kept
-
-abbrev pub decreases-loop-i : goal.decreases-loop-i
-decreases-loop-i l = l.n - l.i

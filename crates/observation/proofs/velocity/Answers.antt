@@ -1,12 +1,7 @@
-use Rattle.selected.proofs.Selected.{turned}
+use Rattle.std.proofs.Common.{◌∙◌}
 use Rattle.models.specs.Models.{selection}
-use Rattle.matrix.specs.Matrix.{item, times_vector, row_times, transposed}
-use mathlib.Core.Path.{◌∙◌}
-use mathlib.Core.List.{[], ◌∷◌}
+use Rattle.observation.proofs.Seen.{times_turned}
 use Rattle.observation.proofs.velocity.Goals as goal
 
 pub returns : goal.returns
-unfolding times_vector row_times transposed selection
-returns c =
-    let x = c.args.x in
-    c.velocity_in.ensures ∙ (λ i. turned 5 3 (item x) i ∷ turned 5 4 (item x) i ∷ [])
+returns c = c.row_worked.ensures ∙ times_turned 2 6 (selection 2 6 3) c.args.x

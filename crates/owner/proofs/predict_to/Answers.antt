@@ -74,5 +74,5 @@ returns c =
     let fits : SFits w64 c.args.t.last_time = search rules in
     rw z
     (predict_ends a.t a.time st ss sk c.loop-i.t c.loop-i.code c.time_code-code.result c.live-all.result c.loop-i.i c.loop-i.n c.taken.result c.taken-2.result
-    (rw (z, c.observation_of-last.ensures, to_z-of_z fits, ← last_held a.t a.time st ss sk) at c.time_code-code.ensures) c.live-all.ensures (omega arith) (omega arith) v.4
+    (rw (z, c.flagged-last.ensures, to_z-of_z fits, ← last_held a.t a.time st ss sk) at c.time_code-code.ensures) c.live-all.ensures (omega arith) (omega arith) v.4
     (c.taken.ensures ∙ ap (λ (y : PkTracker). min y.sequence_count 32) v.4) (c.taken-2.ensures ∙ ap (λ (y : PkTracker). min y.candidate_count 64) v.4) (rw (z, c.settings_of-config.ensures) at v.5))

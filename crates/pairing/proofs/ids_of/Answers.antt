@@ -37,8 +37,5 @@ offset_bounds-ids-i c = omega (arith, c.loop-i-test.true, c.requires)
 pub bounds-ids-i : goal.bounds-ids-i
 bounds-ids-i c = omega (arith, c.loop-i-test.true, c.requires)
 
-pub overflow_add-i : goal.overflow_add-i
-overflow_add-i c = omega (arith, c.loop-i-test.true)
-
 pub loop-i-smaller : goal.loop-i-smaller
 loop-i-smaller c = omega (arith, c.loop-i-test.true)

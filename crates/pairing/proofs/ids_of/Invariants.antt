@@ -1,5 +1,5 @@
 use mathlib.Core.Path.{◌≡◌}
-use Prim.Native.Nat.{◌-◌, ◌≤◌}
+use Prim.Native.Nat.{◌≤◌}
 use lib.ListN.{length, take, replicate}
 use Rattle.lists.specs.Lay.{lay}
 use Rattle.pairing.specs.Rows.{ids_of}
@@ -7,6 +7,3 @@ use Rattle.pairing.proofs.ids_of.Given as goal
 
 abbrev pub invariant-loop-i : goal.invariant-loop-i
 invariant-loop-i l = (l.i ≤ l.n) × (length l.rows ≡ 64) × (l.ids ≡ lay (take l.i (ids_of l.rows)) (replicate 64 0))
-
-abbrev pub decreases-loop-i : goal.decreases-loop-i
-decreases-loop-i l = l.n - l.i

@@ -1,5 +1,5 @@
 use mathlib.Core.Path.{◌≡◌}
-use Prim.Native.Nat.{◌-◌, ◌≤◌}
+use Prim.Native.Nat.{◌≤◌}
 use lib.ListN.{length}
 use Rattle.pairing.specs.Rows.{recent_row}
 use Rattle.pairing.proofs.Laying.{Laying}
@@ -7,6 +7,3 @@ use Rattle.pairing.proofs.mark_recent.Given as goal
 
 abbrev pub invariant-loop-i : goal.invariant-loop-i
 invariant-loop-i l = (l.i ≤ l.n) × (length l.rows ≡ 64) × Laying (recent_row l.window l.time) l.rows 0 l.i l.initial.flags l.flags
-
-abbrev pub decreases-loop-i : goal.decreases-loop-i
-decreases-loop-i l = l.n - l.i

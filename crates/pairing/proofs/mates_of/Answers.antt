@@ -2,7 +2,7 @@
 use mathlib.Core.Path.{◌≡◌, subst}
 use Prim.Native.Nat.{ℕ, suc, ◌-◌}
 use native.Mathlib.Omega.{arith}
-use Rattle.pairing.proofs.Mating.{Mating, mating_none, mating_skip, mating_take, mated}
+use Rattle.pairing.proofs.Mating.{Mating, mating_none, mating_skip, mating_take}
 use Rattle.pairing.proofs.mates_of.Goals as goal
 
 pub loop-j-init : goal.loop-j-init
@@ -19,6 +19,3 @@ loop-j-preserved c =
     let t = c.loop-j-test.true in
     let e : c.loop-j.j ≡ suc (c.loop-j.j - 1) = omega arith in
     (omega arith, mating_skip _ _ (c.loop-j.j - 1) _ (omega (arith, c.loop-j.invariant.0)) (omega (arith, c.requires.0, c.requires.1)) (subst (λ (k : ℕ). Mating c.args.takers.now c.args.m k c.loop-j.mates) e c.loop-j.invariant.1) c.if-i-lt64.false)
-
-pub returns : goal.returns
-returns c = mated _ _ c.loop-j.j _ (omega (arith, c.loop-j-test.false)) c.loop-j.invariant.1

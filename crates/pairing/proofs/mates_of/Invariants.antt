@@ -4,6 +4,3 @@ use Rattle.pairing.proofs.mates_of.Given as goal
 
 abbrev pub invariant-loop-j : goal.invariant-loop-j
 invariant-loop-j l = (l.j ≤ l.m) × Mating l.takers l.m l.j l.mates
-
-abbrev pub decreases-loop-j : goal.decreases-loop-j
-decreases-loop-j l = l.j

@@ -51,8 +51,5 @@ offset_bounds-rows-i c = omega (arith, c.loop-i-test.true, c.loop-i.invariant.1)
 pub bounds-rows-i : goal.bounds-rows-i
 bounds-rows-i c = omega (arith, c.loop-i-test.true, c.loop-i.invariant.1)
 
-pub overflow_add-i : goal.overflow_add-i
-overflow_add-i c = omega (arith, c.loop-i-test.true, c.loop-i.invariant.1)
-
 pub loop-i-smaller : goal.loop-i-smaller
 loop-i-smaller c = omega (arith, c.loop-i-test.true)

@@ -1,6 +1,6 @@
 use mathlib.Core.Path.{◌≡◌}
 use mathlib.Core.List.{map}
-use Prim.Native.Nat.{◌-◌, ◌≤◌}
+use Prim.Native.Nat.{◌≤◌}
 use lib.ListN.{length, take, replicate}
 use Rattle.lists.specs.Lay.{lay}
 use Rattle.pairing.specs.Rows.{row_of, blank_row}
@@ -8,6 +8,3 @@ use Rattle.pairing.proofs.rows_of.Given as goal
 
 abbrev pub invariant-loop-i : goal.invariant-loop-i
 invariant-loop-i l = (l.i ≤ l.count) × (l.count ≤ 64) × (length l.tracks ≡ 64) × (l.rows ≡ lay (take l.i (map row_of l.tracks)) (replicate 64 blank_row))
-
-abbrev pub decreases-loop-i : goal.decreases-loop-i
-decreases-loop-i l = l.count - l.i

@@ -8,4 +8,4 @@ pub returns : goal.returns
 unfolding is_plain
 returns c =
     let test = c.before in
-    ap₂ ◌&&◌ (test.is_finite.ensures ∙ ap finite test.total_6x6.ensures) c.is_above.ensures
+    ap₂ ◌&&◌ (test.is_finite.ensures ∙ ap finite test.total.ensures) c.is_above.ensures

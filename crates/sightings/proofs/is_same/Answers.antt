@@ -3,7 +3,7 @@ use borrow.Author.Tests.{eqb-true}
 use Rattle.number.proofs.Equal.{eq_turned}
 use Rattle.number.proofs.Zeros.{impossible}
 use Rattle.square_root.proofs.Patterns.{eq_no_nan}
-use Rattle.sightings.proofs.Kin.{bits_same}
+use Rattle.sightings.proofs.Same.{bits_same}
 use Rattle.sightings.proofs.is_same.Goals as goal
 
 pub float_to_bits-result : goal.float_to_bits-result

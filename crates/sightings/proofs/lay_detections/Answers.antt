@@ -1,5 +1,4 @@
 -- `sightings::lay_detections` meets its contract: the first j detections stand in their places. Assumes nothing.
-use Prim.Native.Nat.{◌-◌}
 use native.Mathlib.Omega.{arith}
 use borrow.Author.Rules.{rules}
 use Rattle.lists.proofs.Laying.{length_mapped}
@@ -47,9 +46,6 @@ bounds-labels-j c = omega (arith, c.loop-j-test.true, c.requires.0)
 
 pub bounds-labelled-j : goal.bounds-labelled-j
 bounds-labelled-j c = omega (arith, c.loop-j-test.true, c.requires.0)
-
-pub overflow_add-j : goal.overflow_add-j
-overflow_add-j c = omega (arith, c.loop-j-test.true, c.requires.0)
 
 pub loop-j-smaller : goal.loop-j-smaller
 loop-j-smaller c = omega (arith, c.loop-j-test.true, c.requires.0)

@@ -1,4 +1,4 @@
-use Rattle.std.proofs.Common.{◌-◌, arith}
+use Rattle.std.proofs.Common.{arith}
 use Rattle.square_root.proofs.Squares.{test_true, test_false, bracketed}
 use Rattle.square_root.proofs.bisect.Goals as goal
 

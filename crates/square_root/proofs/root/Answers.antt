@@ -1,12 +1,12 @@
-use Rattle.std.proofs.Common.{◌≡◌, ℕ, suc, ◌*◌, ◌^◌, ◌<◌, true, false, T, ℤ, sym, ap, ◌∙◌, subst, lit≤, rules}
+use Rattle.std.specs.Prelude.{Some}
+use Rattle.std.proofs.Common.{◌≡◌, ℕ, suc, ◌*◌, ◌^◌, ◌<◌, true, false, T, ℤ, sym, ap, ◌∙◌, subst, rules}
 use lib.Ieee.{Float, fin, binary64, to_bits, of_bits, lt, fits}
 use lib.Ieee.Exact.{HasValue, odd_sign}
 use lib.Ieee.Bits.{of_bits-to_bits}
 use Rattle.number.specs.Reply.{given}
-use Rattle.square_root.specs.declared.SquareRoot.TheVariants.{Value}
 use Rattle.square_root.specs.Root.{NearestRoot, root_of, root_reply, RootAnswer}
 use Rattle.square_root.specs.RootSteps.{PatternOf, weight, digits, power}
-use Rattle.square_root.proofs.Patterns.{no_nan_bits, lt_no_nan}
+use Rattle.square_root.proofs.Patterns.{lt_no_nan}
 use Rattle.square_root.proofs.Fields.{below_inf, above_zero, weighs, argument, root_value}
 use Rattle.square_root.proofs.Digits.{is_function}
 use Rattle.square_root.proofs.Midpoints.{lower, upper}
@@ -46,14 +46,11 @@ module _ (r m : ℕ) (e : ℤ) (g : T (fits binary64 (fin false (suc m) e))) (k 
         upper = upper w (digits r) (power r) k.rounded;
       }
 
-  answer : RootAnswer x (Value (of_bits binary64 r))
+  answer : RootAnswer x (Some (of_bits binary64 r))
   answer = record { is = is; nearest = λ v p h. subst (λ (v : Float). NearestRoot x v) (same v (is ∙ h)) near }
     where
       same : (v : Float) → given (of_bits binary64 r) ≡ given v → of_bits binary64 r ≡ v
       same v h = cc
-
-pub float_from_bits-t-4 : goal.float_from_bits-t-4
-float_from_bits-t-4 c = no_nan_bits 0x7ff0_0000_0000_0000 (lit≤ tt)
 
 pub float_to_bits-x : goal.float_to_bits-x
 float_to_bits-x c = lt_no_nan _ _ c.if-x-2.true
@@ -67,8 +64,8 @@ pub returns-then-x-2 : goal.returns-then-x-2
 returns-then-x-2 c =
     let at = c.before.before.before in
     let v = c.finite_root.ensures in
-    when_positive (λ y. T (fits binary64 y) → PatternOf (weight (to_bits binary64 y)) v.pattern → RootAnswer y (Value c.finite_root.result))
-    (λ m e g k. subst (λ (u : Float). RootAnswer (fin false (suc m) e) (Value u)) (sym v.is) (answer v.pattern m e g k))
+    when_positive (λ y. T (fits binary64 y) → PatternOf (weight (to_bits binary64 y)) v.pattern → RootAnswer y (Some c.finite_root.result))
+    (λ m e g k. subst (λ (u : Float). RootAnswer (fin false (suc m) e) (Some u)) (sym v.is) (answer v.pattern m e g k))
     at.args.x c.if-x.true c.if-x-2.true (search rules) v.right
 
 pub returns-else-x-2 : goal.returns-else-x-2

@@ -13,15 +13,15 @@ use Rattle.updating.specs.Updates.{update_of, updated_tracks}
 use Rattle.stages.proofs.Taking.{pairing_refused, pairing_updated}
 use Rattle.stages.proofs.match_tracks.Goals as goal
 
-pub returns-in-Refused : goal.returns-in-Refused
-returns-in-Refused c =
+pub returns-in-Err : goal.returns-in-Err
+returns-in-Err c =
     let a = c.args in
     let track_places : length a.u.tracks ≡ 64 = search (rules, length_mapped) in
     let observation_places : length a.batch.observations ≡ 64 = search (rules, length_mapped) in
-    pairing_refused a.u a.batch track_places observation_places c.pair-paired.result c.pair-paired.ensures c.in-Refused.why c.in-Refused.is
+    pairing_refused a.u a.batch track_places observation_places c.pair-paired.result c.pair-paired.ensures c.in-Err.why c.in-Err.is
 
-pub returns-in-Done : goal.returns-in-Done
-returns-in-Done c =
+pub returns-in-Ok : goal.returns-in-Ok
+returns-in-Ok c =
     let a = c.args in
     let track_places : length a.u.tracks ≡ 64 = search (rules, length_mapped) in
     let observation_places : length a.batch.observations ≡ 64 = search (rules, length_mapped) in
@@ -29,4 +29,4 @@ returns-in-Done c =
     let e : c.update_of-update.result ≡ update_of a.u.config a.batch.sensor_id a.batch.timestamp = rw (to_z-of_z f) at c.update_of-update.ensures in
     let updates =
     subst (λ (h : Update). TrackerAnswers a.u c.update_tracks-step.result (updated_tracks a.u (mate_of c.pair-paired.result.mates a.batch.observations) h)) e c.update_tracks-step.ensures in
-    pairing_updated a.u a.batch track_places observation_places c.pair-paired.result c.pair-paired.ensures c.requires c.in-Done.is c.update_tracks-step.result updates
+    pairing_updated a.u a.batch track_places observation_places c.pair-paired.result c.pair-paired.ensures c.requires c.in-Ok.is c.update_tracks-step.result updates

@@ -1,11 +1,6 @@
-use mathlib.Core.Path.{◌≡◌}
-use Prim.Native.Nat.{◌≤◌, ◌+◌, ◌*◌, ◌-◌}
-use lib.ListN.{take, length}
-use Rattle.text.specs.Text.{Put, list_text}
+use Rattle.std.proofs.Common.{◌≤◌, ◌+◌, ◌*◌, take}
+use Rattle.text.specs.Text.{Puts, list_text}
 use Rattle.text.proofs.put_list.Given as goal
 
-abbrev pub invariant-loop-i : goal.invariant-loop-i
-invariant-loop-i l = (l.i ≤ l.n) × (l.place ≤ l.at + 3 * l.i) × (length l.out ≡ length l.initial.out) × Put (list_text (take l.i l.list)) l.at l.initial.out l.place l.out
-
-abbrev pub decreases-loop-i : goal.decreases-loop-i
-decreases-loop-i l = l.n - l.i
+abbrev pub invariant-loop-n : goal.invariant-loop-n
+invariant-loop-n l = Puts (list_text (take l.n-index l.list)) l.initial.text l.text × (l.text.len ≤ l.initial.text.len + 3 * l.n-index)

@@ -1,64 +1,31 @@
--- The loop keeps that the first `i` pairs are put, eight bytes each at most.
-use mathlib.Core.Path.{refl, ap, ◌∙◌}
-use native.Mathlib.Omega.{arith}
-use lib.ListN.{get_or}
+-- The loop keeps that the first pairs are put, eight bytes each at most.
+use Rattle.std.proofs.Common.{arith, ◌≡◌, ap, ◌∙◌, ◌++◌, ℕ, take, get_or, length}
+use Rattle.std.proofs.lemmas.List.{length_push}
+use Rattle.std.proofs.lemmas.Slice.Zip.{zip_turn}
 use Rattle.lists.specs.Masks.{zipped}
-use Rattle.text.specs.Text.{pairs_text}
-use Rattle.text.proofs.Texts.{put_none, put_same, put_then, pair_short, pairs_more, zipped_few}
+use Rattle.kuhn_munkres.specs.Assignment.{Pair}
+use Rattle.assignment.specs.Listing.{pair_of}
+use Rattle.text.specs.Text.{pair_text, pairs_text}
+use Rattle.text.proofs.Texts.{puts_none, puts_same, puts_then, pairs_more}
 use Rattle.text.proofs.put_pairs.Goals as goal
 
-pub loop-i-init : goal.loop-i-init
+pub loop-row-init : goal.loop-row-init
 unfolding pairs_text zipped
-loop-i-init c =
-    let out = c.args.out.now in
-    let at = c.args.at in
-    (omega arith, omega arith, refl, put_none at out)
+loop-row-init c = (puts_none c.args.text.now, omega arith, omega arith)
 
-pub offset_bounds-rows-i : goal.offset_bounds-rows-i
-offset_bounds-rows-i c =
-    omega (arith, c.few-n.ensures, c.loop-i-test.true, c.requires.1)
-
-pub bounds-rows-i : goal.bounds-rows-i
-bounds-rows-i c =
-    omega (arith, c.few-n.ensures, c.loop-i-test.true, c.requires.1)
-
-pub offset_bounds-columns-i : goal.offset_bounds-columns-i
-offset_bounds-columns-i c =
-    omega (arith, c.few-n.ensures, c.loop-i-test.true, c.requires.2)
-
-pub bounds-columns-i : goal.bounds-columns-i
-bounds-columns-i c =
-    omega (arith, c.few-n.ensures, c.loop-i-test.true, c.requires.2)
-
-pub put_pair-place-requires : goal.put_pair-place-requires
-put_pair-place-requires c =
-    omega (arith, c.few-n.ensures, c.loop-i-test.true, c.requires.0, c.loop-i.invariant.1, c.loop-i.invariant.2)
-
-pub loop-i-preserved : goal.loop-i-preserved
-loop-i-preserved c =
-    let columns = c.args.columns.now in
-    let rows = c.args.rows.now in (
-      omega (arith, c.loop-i-test.true),
-      omega (
-        arith,
-        c.loop-i.invariant.1,
-        c.put_pair-place.ensures.place,
-        pair_short
-            (get_or rows c.loop-i.i 0) (get_or columns c.loop-i.i 0),
-      ),
-      c.put_pair-place.ensures.long ∙ c.loop-i.invariant.2,
-      put_same
-          (pairs_more rows columns c.loop-i.i (omega (arith, c.few-n.ensures, c.loop-i-test.true, c.requires.1))
-          (omega (arith, c.few-n.ensures, c.loop-i-test.true, c.requires.2))) (put_then c.loop-i.invariant.3 c.put_pair-place.ensures),
-    )
-
-pub returns : goal.returns
-returns c =
-    let columns = c.args.columns.now in
+pub loop-row-preserved : goal.loop-row-preserved
+loop-row-preserved c =
     let rows = c.args.rows.now in
-    let count = c.args.count in (
-      put_same (ap pairs_text
-          (zipped_few rows columns c.loop-i.i c.few-n.result count c.requires.1 c.requires.2 c.few-n.ensures c.loop-i.invariant.0 c.loop-i-test.false))
-          c.loop-i.invariant.3,
-      omega (arith, c.loop-i.invariant.0, c.loop-i.invariant.1, c.few-n.ensures),
+    let columns = c.args.columns.now in
+    let t = zip_turn rows columns c.loop-row.yielded c.into_iter-row-iterator.result c.loop-row.row-iterator c.next.new.self c.next.result (cc) (cc) c.loop-row.yielded_by (c.in-Some.row, c.in-Some.column) c.in-Some.is c.next.ensures.steps in
+    let n = length_push c.loop-row.yielded (c.in-Some.row, c.in-Some.column) in
+    let k = length c.loop-row.yielded in
+    let e : pair_of c.in-Some.row.now c.in-Some.column.now ≡ pair_of (get_or rows k 0) (get_or columns k 0) =
+    ap (λ (i : ℕ). pair_of i c.in-Some.column.now) (t.2 0) ∙ ap (λ (j : ℕ). pair_of (get_or rows k 0) j) (t.3 0) in (
+      rw n
+          (puts_same
+          (ap (λ (p : Pair). pairs_text (zipped pair_of (take k rows) (take k columns)) ++ pair_text p) e ∙ pairs_more rows columns k t.0 t.1)
+          (puts_then c.loop-row.invariant.0 c.put_pair.ensures.0)),
+      omega arith,
+      omega arith,
     )

@@ -1,9 +1,10 @@
--- The five parts are put one after the other, and chained by `put_then`.
-use Rattle.text.proofs.Texts.{put_same, put_then, unmatched_is}
+-- The five parts are put one after the other, and chained by `puts_then`.
+use Rattle.std.proofs.Common.{arith}
+use Rattle.text.proofs.Texts.{puts_same, puts_then, unmatched_is}
 use Rattle.text.proofs.put_unmatched.Goals as goal
 
 pub returns : goal.returns
-returns c =
-    put_same (unmatched_is _ _) (put_then
-    (put_then (put_then (put_then c.put-a.ensures c.put_list-b.ensures.0) c.put-c.ensures) c.put_list-d.ensures.0)
-    c.put.ensures)
+returns c = (
+  puts_same (unmatched_is _ _) (puts_then (puts_then (puts_then (puts_then c.put.ensures c.put_list.ensures.0) c.put-2.ensures) c.put_list-2.ensures.0) c.put-3.ensures),
+  let p = c.put.ensures.place in let q = c.put-2.ensures.place in let r = c.put-3.ensures.place in omega arith,
+)

@@ -17,21 +17,21 @@ pair_and_finish-requires c =
     let a = c.args in
     let f : SFits w64 a.batch.timestamp = search rules in
     let prepared : Answers a.t c.prepare-step.result.tracker c.prepare-step.result.outcome (prepared_state a.t a.batch.timestamp) = rw (to_z-of_z f) at c.prepare-step.ensures in
-    let there = ready a.t a.batch c.prepare-step.result.tracker c.prepare-step.result.outcome prepared c.in-Done.is in
+    let there = ready a.t a.batch c.prepare-step.result.tracker c.prepare-step.result.outcome prepared c.in-Ok.is in
     (c.requires, there.laid)
 
-pub returns-in-Refused : goal.returns-in-Refused
-returns-in-Refused c =
+pub returns-in-Err : goal.returns-in-Err
+returns-in-Err c =
     let a = c.args in
     let f : SFits w64 a.batch.timestamp = search rules in
     let prepared : Answers a.t c.prepare-step.result.tracker c.prepare-step.result.outcome (prepared_state a.t a.batch.timestamp) = rw (to_z-of_z f) at c.prepare-step.ensures in
-    let why = c.in-Refused.why in
-    replies_refused a.t a.batch why c.refuse.result _ c.refuse.ensures (move_refused a.t a.batch c.prepare-step.result.tracker c.prepare-step.result.outcome prepared why c.in-Refused.is)
+    let why = c.in-Err.why in
+    replies_refused a.t a.batch why c.refuse.result _ c.refuse.ensures (move_refused a.t a.batch c.prepare-step.result.tracker c.prepare-step.result.outcome prepared why c.in-Err.is)
 
-pub returns-in-Done : goal.returns-in-Done
-returns-in-Done c =
+pub returns-in-Ok : goal.returns-in-Ok
+returns-in-Ok c =
     let a = c.args in
     let f : SFits w64 a.batch.timestamp = search rules in
     let prepared : Answers a.t c.prepare-step.result.tracker c.prepare-step.result.outcome (prepared_state a.t a.batch.timestamp) = rw (to_z-of_z f) at c.prepare-step.ensures in
-    let there = ready a.t a.batch c.prepare-step.result.tracker c.prepare-step.result.outcome prepared c.in-Done.is in
+    let there = ready a.t a.batch c.prepare-step.result.tracker c.prepare-step.result.outcome prepared c.in-Ok.is in
     subst (λ (x : Reply Done). Replies a.t x c.pair_and_finish.result) (sym there.left) c.pair_and_finish.ensures

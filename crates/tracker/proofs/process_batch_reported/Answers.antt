@@ -13,22 +13,22 @@ unfolding sequences_of
 carry_out-requires c =
     let a = c.args in
     let checks : reply_of c.validate_batch.result ≡ check_reply a.t a.batch = c.validate_batch.ensures in
-    let passes = sym checks ∙ ap reply_of c.in-Done.is in
+    let passes = sym checks ∙ ap reply_of c.in-Ok.is in
     passes
 
-pub returns-in-Refused : goal.returns-in-Refused
+pub returns-in-Err : goal.returns-in-Err
 unfolding sequences_of
-returns-in-Refused c =
+returns-in-Err c =
     let a = c.args in
     let checks : reply_of c.validate_batch.result ≡ check_reply a.t a.batch = c.validate_batch.ensures in
-    let why = c.in-Refused.why in
+    let why = c.in-Err.why in
     subst (λ (r : Reported). BatchAnswers a.t a.batch r.tracker r.outcome r.report) (sym c.refuse.ensures)
-    (batch_refuses a.t a.batch why (sym (check_refused a.t a.batch _ (sym checks ∙ ap reply_of c.in-Refused.is))))
+    (batch_refuses a.t a.batch why (sym (check_refused a.t a.batch _ (sym checks ∙ ap reply_of c.in-Err.is))))
 
-pub returns-in-Done : goal.returns-in-Done
+pub returns-in-Ok : goal.returns-in-Ok
 unfolding sequences_of
-returns-in-Done c =
+returns-in-Ok c =
     let a = c.args in
     let checks : reply_of c.validate_batch.result ≡ check_reply a.t a.batch = c.validate_batch.ensures in
-    let passes = sym checks ∙ ap reply_of c.in-Done.is in
+    let passes = sym checks ∙ ap reply_of c.in-Ok.is in
     check_passed a.t a.batch c.carry_out.result passes c.carry_out.ensures

@@ -1,6 +1,6 @@
 use mathlib.Core.Path.{refl, sym, ap, ◌∙◌}
 use Rattle.matrix.specs.Matrix.{Matrix, congruence}
-use Rattle.selected.proofs.Arrays.{entries_fit}
+use Rattle.matrix.proofs.Arrays.{entries_fit}
 use Rattle.transition.specs.Glide.{glided_columns, can_glide}
 use Rattle.transition.proofs.Gliding.{glided_read}
 use Rattle.transition.proofs.moved_spread.Goals as goal
@@ -20,4 +20,4 @@ pub returns-else-can_glide : goal.returns-else-can_glide
 returns-else-can_glide c =
     let made = c.before in
     let s = made.before.before.before.before in
-    c.congruence_6x6.ensures ∙ ap (λ (f : Matrix). congruence 6 6 f s.args.p) made.cv_f6.ensures
+    c.congruence.ensures ∙ ap (λ (f : Matrix). congruence 6 6 f s.args.p) made.cv_f6.ensures

@@ -9,14 +9,14 @@ returns-in-None c =
     let a = c.args in
     done (no_setting a.f a.deviation a.velocity c.in-None.is)
 
-pub returns-in-Unmeasured : goal.returns-in-Unmeasured
-returns-in-Unmeasured c =
+pub returns-in-None-velocity : goal.returns-in-None-velocity
+returns-in-None-velocity c =
     let a = c.args in
-    done (no_velocity a.f a.deviation a.velocity c.in-Some.std c.in-Some.is c.in-Unmeasured.is)
+    done (no_velocity a.f a.deviation a.velocity c.in-Some.std c.in-Some.is c.in-None-velocity.is)
 
-pub returns-in-Measured : goal.returns-in-Measured
-returns-in-Measured c =
+pub returns-in-Some-velocity : goal.returns-in-Some-velocity
+returns-in-Some-velocity c =
     let a = c.args in
     answers c.given_back.ensures
     (c.update_velocity.ensures.is
-    ∙ velocity a.f a.deviation a.velocity c.in-Some.std c.in-Measured.x c.in-Measured.y c.in-Some.is c.in-Measured.is)
+    ∙ velocity a.f a.deviation a.velocity c.in-Some.std c.in-Some-velocity.v c.in-Some.is c.in-Some-velocity.is)

@@ -4,11 +4,11 @@ use Rattle.moving.proofs.Moves.{carries_out, refuses, step_done, step_refused}
 use Rattle.updating.specs.Updates.{observed_as}
 use Rattle.updating.proofs.finish.Goals as goal
 
-pub returns-in-Done : goal.returns-in-Done
-returns-in-Done c =
+pub returns-in-Ok : goal.returns-in-Ok
+returns-in-Ok c =
     let a = c.args in
-    carries_out (step_done a.step _ c.in-Done.is (ap given (c.observe.ensures ∙ ap (observed_as a.u a.seen) c.with_filter.ensures)))
+    carries_out (step_done a.step _ c.in-Ok.is (ap given (c.observe.ensures ∙ ap (observed_as a.u a.seen) c.with_filter.ensures)))
 
-pub returns-in-Refused : goal.returns-in-Refused
-returns-in-Refused c =
-    refuses (step_refused c.args.step _ c.in-Refused.why c.of_matrix.result c.in-Refused.is c.of_matrix.ensures)
+pub returns-in-Err : goal.returns-in-Err
+returns-in-Err c =
+    refuses (step_refused c.args.step _ c.in-Err.why c.of_matrix.result c.in-Err.is c.of_matrix.ensures)

@@ -8,35 +8,39 @@ use Rattle.moving.proofs.Tracks.{step_given, step_refuses, carries_out, refuses}
 use Rattle.association.specs.Told.{mate_of}
 use Rattle.updating.proofs.All.{has_mate, no_mate, as_it_was, updated, stops, all_stop, all_updated}
 use Rattle.updating.proofs.update_tracks.Goals as goal
+use Rattle.updating.proofs.update_tracks.Goals.{then-j-lt-MAX_OBSERVATIONS+in_default, else-j-lt-MAX_OBSERVATIONS}
 
 pub loop-i-init : goal.loop-i-init
 loop-i-init c = (search rules, omega (arith, c.taken-n.ensures), search (rules, length_mapped), stepped_start _ _)
 
-pub returns-in-Refused : goal.returns-in-Refused
-returns-in-Refused c =
+pub returns-in-Err : goal.returns-in-Err
+returns-in-Err c =
     let n = c.taken-n in
     let a = c.args in
     let v = c.loop-i.invariant in
     refuses (all_stop a.s (mate_of a.mates a.observations) a.u n.result v.2 n.ensures _
     (stops a.u (mate_of a.mates a.observations) a.s.tracks c.loop-i.tracks c.loop-i.i no_track v.3 n.result _ _ c.loop-i-test.true (omega arith)
     (has_mate a.mates a.observations c.loop-i.i c.if-j-lt-MAX_OBSERVATIONS.true)
-    (step_refuses c.update_track-step.ensures c.in-Refused.why c.in-Refused.is)))
-
-pub loop-i-preserved-in-Done : goal.loop-i-preserved-in-Done
-loop-i-preserved-in-Done c =
-    let a = c.args in
-    let v = c.loop-i.invariant in (
-      search rules,
-      v.1,
-      v.2,
-      updated a.u (mate_of a.mates a.observations) _ _ c.loop-i.i no_track v.3 _ _ (omega arith) (has_mate a.mates a.observations c.loop-i.i c.if-j-lt-MAX_OBSERVATIONS.true) (step_given c.update_track-step.ensures c.in-Done.is),
-    )
+    (step_refuses c.update_track-step.ensures c.in-Err.why c.in-Err.is)))
 
 pub loop-i-preserved : goal.loop-i-preserved
 loop-i-preserved c =
     let a = c.args in
     let v = c.loop-i.invariant in
-    (search rules, v.1, v.2, as_it_was a.u (mate_of a.mates a.observations) _ _ c.loop-i.i no_track v.3 (omega arith) (no_mate a.mates a.observations c.loop-i.i c.if-j-lt-MAX_OBSERVATIONS.false))
+    elim c.if-j-lt-MAX_OBSERVATIONS.branch [
+      | then-j-lt-MAX_OBSERVATIONS+in_default w ↦ rw w.tracks-is (
+        search rules,
+        v.1,
+        v.2,
+        updated a.u (mate_of a.mates a.observations) _ _ c.loop-i.i no_track v.3 _ _ (omega arith) (has_mate a.mates a.observations c.loop-i.i w.if-j-lt-MAX_OBSERVATIONS.true) (step_given w.update_track-step.ensures w.in_default.is),
+      )
+      | else-j-lt-MAX_OBSERVATIONS w ↦ rw w.tracks-is (
+        search rules,
+        v.1,
+        v.2,
+        as_it_was a.u (mate_of a.mates a.observations) _ _ c.loop-i.i no_track v.3 (omega arith) (no_mate a.mates a.observations c.loop-i.i w.if-j-lt-MAX_OBSERVATIONS.false),
+      )
+    ]
 
 pub returns : goal.returns
 returns c =

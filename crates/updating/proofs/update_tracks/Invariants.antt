@@ -1,5 +1,5 @@
 use mathlib.Core.Path.{◌≡◌}
-use Prim.Native.Nat.{◌≤◌, ◌-◌}
+use Prim.Native.Nat.{◌≤◌}
 use lib.ListN.{length}
 use Rattle.lists.proofs.Stepping.{Stepped}
 use Rattle.association.specs.Told.{mate_of}
@@ -8,6 +8,3 @@ use Rattle.updating.proofs.update_tracks.Given as goal
 
 abbrev pub invariant-loop-i : goal.invariant-loop-i
 invariant-loop-i l = (l.i ≤ l.n) × (l.n ≤ 64) × (length l.initial.tracks ≡ 64) × Stepped (steps l.u (mate_of l.mates l.observations)) l.initial.tracks l.tracks l.i
-
-abbrev pub decreases-loop-i : goal.decreases-loop-i
-decreases-loop-i l = l.n - l.i

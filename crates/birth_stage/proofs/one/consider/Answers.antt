@@ -11,17 +11,17 @@ returns-in-Waits c =
     consider_waits a.config a.sensor a.time (low_score a.config a.d) (near_confirmed a.config (places_of a.places) a.d) a.d a.k a.id a.c c.decide-seen.result (rw (to_z-of_z c.ranges.time) at c.decide-seen.ensures)
     c.blank_track.result c.in-Waits.is c.blank_track.ensures
 
-pub returns-in-Done : goal.returns-in-Done
-returns-in-Done c =
+pub returns-in-Ok : goal.returns-in-Ok
+returns-in-Ok c =
     let a = c.args in
     consider_begun a.config a.sensor a.time (low_score a.config a.d) (near_confirmed a.config (places_of a.places) a.d) a.d a.k a.id a.c c.decide-seen.result (rw (to_z-of_z c.ranges.time) at c.decide-seen.ensures)
-    c.in-Begins.n c.begin_with.result c.try_spawn-step.result c.in-Begins.is (rw (to_z-of_z c.ranges.time) at c.begin_with.ensures) c.try_spawn-step.ensures c.in-Done.is
+    c.in-Begins.n c.begin_with.result c.try_spawn-step.result c.in-Begins.is (rw (to_z-of_z c.ranges.time) at c.begin_with.ensures) c.try_spawn-step.ensures c.in-Ok.is
 
-pub returns-in-Refused : goal.returns-in-Refused
-returns-in-Refused c =
+pub returns-in-Err : goal.returns-in-Err
+returns-in-Err c =
     let a = c.args in
     consider_refused a.config a.sensor a.time (low_score a.config a.d) (near_confirmed a.config (places_of a.places) a.d) a.d a.k a.id a.c c.decide-seen.result (rw (to_z-of_z c.ranges.time) at c.decide-seen.ensures)
-    c.in-Begins.n c.begin_with.result c.try_spawn-step.result c.in-Begins.is (rw (to_z-of_z c.ranges.time) at c.begin_with.ensures) c.try_spawn-step.ensures c.in-Refused.why c.in-Refused.is
+    c.in-Begins.n c.begin_with.result c.try_spawn-step.result c.in-Begins.is (rw (to_z-of_z c.ranges.time) at c.begin_with.ensures) c.try_spawn-step.ensures c.in-Err.why c.in-Err.is
 
 pub returns-in-Full : goal.returns-in-Full
 returns-in-Full c =

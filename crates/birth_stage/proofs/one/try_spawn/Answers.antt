@@ -2,15 +2,15 @@
 use Rattle.birth_stage.proofs.Deciding.{try_done, try_refused, try_no_place, try_no_number}
 use Rattle.birth_stage.proofs.one.try_spawn.Goals as goal
 
-pub returns-in-Done : goal.returns-in-Done
-returns-in-Done c =
+pub returns-in-Ok : goal.returns-in-Ok
+returns-in-Ok c =
     let a = c.args in
-    try_done a.d a.k a.id a.sightings a.b c.spawn-step.result c.if-k-lt64.true c.if-id-lt18446744073709551615.true c.spawn-step.ensures c.in-Done.is
+    try_done a.d a.k a.id a.sightings a.b c.spawn-step.result c.if-k-lt64.true c.if-id-lt18446744073709551615.true c.spawn-step.ensures c.in-Ok.is
 
-pub returns-in-Refused : goal.returns-in-Refused
-returns-in-Refused c =
+pub returns-in-Err : goal.returns-in-Err
+returns-in-Err c =
     let a = c.args in
-    try_refused a.d a.k a.id a.sightings a.b c.spawn-step.result c.refuse.result c.in-Refused.why c.if-k-lt64.true c.if-id-lt18446744073709551615.true c.spawn-step.ensures c.in-Refused.is c.refuse.ensures
+    try_refused a.d a.k a.id a.sightings a.b c.spawn-step.result c.refuse.result c.in-Err.why c.if-k-lt64.true c.if-id-lt18446744073709551615.true c.spawn-step.ensures c.in-Err.is c.refuse.ensures
 
 pub returns-else-id-lt18446744073709551615 : goal.returns-else-id-lt18446744073709551615
 returns-else-id-lt18446744073709551615 c =

@@ -1,6 +1,6 @@
+use Rattle.std.specs.Prelude.{Option}
 use mathlib.Core.Path.{◌≡◌}
 use mathlib.Core.List.{List}
-use mathlib.Core.Option.{Option}
 use Prim.Native.Nat.{ℕ, ◌-◌, ◌≤◌}
 use lib.ListN.{length}
 use Rattle.c_solvers.specs.Mates.{PairsHeld}

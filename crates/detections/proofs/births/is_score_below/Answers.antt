@@ -1,7 +1,7 @@
 use Rattle.detections.proofs.births.is_score_below.Goals as goal
 
-pub returns-in-Unscored : goal.returns-in-Unscored
-returns-in-Unscored c = rw c.in-Unscored.is
+pub returns-in-None : goal.returns-in-None
+returns-in-None c = rw c.in-None.is
 
-pub returns-in-Scored : goal.returns-in-Scored
-returns-in-Scored c = rw c.in-Scored.is
+pub returns-in-Some : goal.returns-in-Some
+returns-in-Some c = rw c.in-Some.is

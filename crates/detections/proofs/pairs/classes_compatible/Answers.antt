@@ -1,12 +1,12 @@
 use Rattle.detections.proofs.pairs.classes_compatible.Goals as goal
 
-pub returns-in-Unknown : goal.returns-in-Unknown
-returns-in-Unknown c = rw c.in-Unknown.is
+pub returns-in-None : goal.returns-in-None
+returns-in-None c = rw c.in-None.is
 
-pub returns-in-Unknown-b : goal.returns-in-Unknown-b
-returns-in-Unknown-b c = rw (c.in-Label.is, c.in-Unknown-b.is)
+pub returns-in-None-b : goal.returns-in-None-b
+returns-in-None-b c = rw (c.in-Some.is, c.in-None-b.is)
 
-pub returns-in-Label-b : goal.returns-in-Label-b
-returns-in-Label-b c =
+pub returns-in-Some-b : goal.returns-in-Some-b
+returns-in-Some-b c =
     let b = c in
-    rw (b.in-Label.is, b.in-Label-b.is)
+    rw (b.in-Some.is, b.in-Some-b.is)

@@ -1,18 +1,18 @@
 use borrow.Author.Tests.{eq-eqb, ne_eqb}
 use Rattle.detections.proofs.pairs.penalize.Goals as goal
 
-pub returns-in-NoPrior : goal.returns-in-NoPrior
-returns-in-NoPrior c = rw c.in-NoPrior.is
+pub returns-in-None : goal.returns-in-None
+returns-in-None c = rw c.in-None.is
 
-pub returns-in-Unknown : goal.returns-in-Unknown
-returns-in-Unknown c = rw (c.in-Prior.is, c.in-Unknown.is)
+pub returns-in-None-seen : goal.returns-in-None-seen
+returns-in-None-seen c = rw (c.in-Some.is, c.in-None-seen.is)
 
-pub returns-then-label-x : goal.returns-then-label-x
-returns-then-label-x c =
+pub returns-then-believed-x : goal.returns-then-believed-x
+returns-then-believed-x c =
     let seen = c in
-    rw (seen.in-Prior.is, seen.in-Label.is, eq-eqb _ _ c.if-label-x.true)
+    rw (seen.in-Some.is, seen.in-Some-seen.is, eq-eqb _ _ c.if-believed-x.true)
 
-pub returns-else-label-x : goal.returns-else-label-x
-returns-else-label-x c =
+pub returns-else-believed-x : goal.returns-else-believed-x
+returns-else-believed-x c =
     let seen = c in
-    rw (seen.in-Prior.is, seen.in-Label.is, ne_eqb _ _ c.if-label-x.false)
+    rw (seen.in-Some.is, seen.in-Some-seen.is, ne_eqb _ _ c.if-believed-x.false)

@@ -1,17 +1,21 @@
 -- `count` has a branch for each equation of `natural_of`.
-use Rattle.std.proofs.Common.{sym, ap, ◌∙◌}
+use Rattle.std.proofs.Common.{rules, arith, sym, ap, ◌∙◌}
+use borrow.Author.Tests.{ltb-true, ltb-false}
 use Rattle.forms.specs.Decimal.{natural_reply}
 use Rattle.forms.proofs.decimal.Decimals as facts
 use Rattle.forms.proofs.decimal.count.Goals as goal
+use Rattle.forms.proofs.decimal.count.Goals.{in_default-via-then-w-lt2, in_default-via-else-w-lt2+in_default-1}
 
-pub returns-then-w-eq0 : goal.returns-then-w-eq0
-returns-then-w-eq0 c = ap natural_reply (sym (facts.none_of c.args.w.now c.if-w-eq0.true))
+pub returns-in_default : goal.returns-in_default
+returns-in_default c =
+    let w = c.args.w.now in
+    elim c.in_default.branch [
+      | in_default-via-then-w-lt2 b ↦ c.value.ensures ∙ ap natural_reply (sym (facts.one_of_lem w (grind (arith, ltb-true, ltb-false))))
+      | in_default-via-else-w-lt2+in_default-1 b ↦ c.value.ensures ∙ ap natural_reply (sym (facts.many_of w (grind (arith, ltb-true, ltb-false)) (grind (arith, ltb-true, ltb-false)) (search rules)))
+    ]
 
-pub returns-then-w-eq1 : goal.returns-then-w-eq1
-returns-then-w-eq1 c = c.value.ensures ∙ ap natural_reply (sym (facts.one_of_lem c.args.w.now c.if-w-eq1.true))
+pub returns-in-empty : goal.returns-in-empty
+returns-in-empty c = ap natural_reply (sym (facts.none_of c.args.w.now (omega arith)))
 
-pub returns-then-w-eq48 : goal.returns-then-w-eq48
-returns-then-w-eq48 c = ap natural_reply (sym (facts.led_of c.args.w.now c.if-w-eq0.false c.if-w-eq1.false c.if-w-eq48.true))
-
-pub returns : goal.returns
-returns c = c.value-2.ensures ∙ ap natural_reply (sym (facts.many_of c.args.w.now c.if-w-eq0.false c.if-w-eq1.false c.if-w-eq48.false))
+pub returns-in-empty-2 : goal.returns-in-empty-2
+returns-in-empty-2 c = ap natural_reply (sym (facts.led_of c.args.w.now (omega arith) (omega arith) (search rules)))

@@ -1,43 +1,48 @@
--- `number` reads what stands behind a sign, or the whole word, by `count`; each branch says what `decimal_of` gives there.
-use Rattle.std.proofs.Common.{◌≡◌, ℕ, List, length, ◌-◌, take, drop, sym, ap, ◌∙◌}
-use Rattle.number.specs.Reply.{Reply}
-use Rattle.forms.specs.Decimal.{natural_reply, decimal_reply, natural_of}
+-- `number` reads what stands behind a sign, or the whole word, by `count`.
+use Rattle.std.proofs.Common.{rules, arith, ◌≡◌, ℕ, get_or, sym, ap, ◌∙◌, Some}
+use Rattle.std.proofs.lemmas.Int.{ints}
+use borrow.Author.Tests.{ltb-true}
 use Rattle.forms.proofs.decimal.Decimals as facts
 use Rattle.forms.proofs.decimal.number.Goals as goal
+use Rattle.forms.proofs.decimal.number.Goals.{in_default-via-then-w-lt1, in_default-via-else-w-lt1+in_default-1}
 
--- what the part behind the sign counts to
-said : (w : List ℕ) (a : Reply ℕ) → a ≡ natural_reply (natural_of (take (length w - 1) (drop 1 w))) → a ≡ natural_reply (natural_of (drop 1 w))
-said w a h = rw (facts.whole w) at h
+pub returns-in_err-n-in-45 : goal.returns-in_err-n-in-45
+returns-in_err-n-in-45 c =
+    rw c.from_residual.ensures (ap facts.negated (sym c.in_err-n-in-45.was) ∙ facts.signed c.args.w.now _ (omega arith) (search rules) c.count.ensures)
 
-pub returns-then-w-eq0 : goal.returns-then-w-eq0
-returns-then-w-eq0 c = facts.empty c.args.w.now c.if-w-eq0.true
+pub returns-in-0 : goal.returns-in-0
+returns-in-0 c =
+    ap (λ (n : ℕ). facts.negated (Some n)) (sym c.in-0.is) ∙ ap facts.negated (sym c.in_ok-n-in-45.was) ∙ facts.signed c.args.w.now _ (omega arith) (search rules) c.count.ensures
 
-pub returns-then-n-eq0 : goal.returns-then-n-eq0
-returns-then-n-eq0 c =
+pub overflow_cast-result : goal.overflow_cast-result
+overflow_cast-result c =
+    let h = facts.counted_small _ c.in_ok-n-in-45.n c.in_ok-n-in-45.ensures in
+    omega (arith, ints)
+
+pub overflow_sub-result : goal.overflow_sub-result
+overflow_sub-result c =
+    let h = facts.counted_small _ c.in_ok-n-in-45.n c.in_ok-n-in-45.ensures in
+    omega (arith, ints)
+
+pub returns-in_default-2 : goal.returns-in_default-2
+returns-in_default-2 c =
+    facts.minus_is c.in_ok-n-in-45.n (search rules) (facts.counted_small _ c.in_ok-n-in-45.n c.in_ok-n-in-45.ensures)
+    ∙ ap facts.negated (sym c.in_ok-n-in-45.was) ∙ facts.signed c.args.w.now _ (omega arith) (search rules) c.count.ensures
+
+pub returns-in_err-count-in_default : goal.returns-in_err-count-in_default
+returns-in_err-count-in_default c =
     let w = c.args.w.now in
-    facts.minus_zero (natural_of (drop 1 w)) c.in-Count.n c.if-n-eq0.true (facts.counts (natural_of (drop 1 w)) _ (said w _ c.in-Count.ensures))
-    ∙ ap decimal_reply (sym (facts.signed w c.if-w-eq0.false c.if-w-eq45.true))
+    let f : get_or w 0 0 ≡ 45 → ⊥ = elim c.in_default.branch [ in_default-via-then-w-lt1 b ↦ facts.no_dash w (grind (arith, ltb-true)) | in_default-via-else-w-lt1+in_default-1 b ↦ search rules ] in
+    rw c.from_residual-in_err-count-in_default.ensures (ap facts.plain (sym c.in_err-count-in_default.was) ∙ facts.unsigned w _ f c.count-in_default.ensures)
 
-pub returns-in-NoCount : goal.returns-in-NoCount
-returns-in-NoCount c =
-    let w = c.args.w.now in
-    facts.minus_none (natural_of (drop 1 w)) (facts.counts_none (natural_of (drop 1 w)) (said w _ c.in-NoCount.ensures))
-    ∙ ap decimal_reply (sym (facts.signed w c.if-w-eq0.false c.if-w-eq45.true))
+pub overflow_cast-result-in_default : goal.overflow_cast-result-in_default
+overflow_cast-result-in_default c =
+    let h = facts.counted_small _ c.in_ok-count-in_default.field-0 c.in_ok-count-in_default.ensures in
+    omega (arith, ints)
 
-pub returns-else-n-eq0 : goal.returns-else-n-eq0
-returns-else-n-eq0 c =
+pub returns-in_ok-count-in_default : goal.returns-in_ok-count-in_default
+returns-in_ok-count-in_default c =
     let w = c.args.w.now in
-    facts.minus_some (natural_of (drop 1 w)) c.in-Count.n c.if-n-eq0.false (facts.counts (natural_of (drop 1 w)) _ (said w _ c.in-Count.ensures))
-    ∙ ap decimal_reply (sym (facts.signed w c.if-w-eq0.false c.if-w-eq45.true))
-
-pub returns-in-NoCount-count : goal.returns-in-NoCount-count
-returns-in-NoCount-count c =
-    let w = c.args.w.now in
-    facts.plus_none (natural_of w) (facts.counts_none (natural_of w) c.in-NoCount-count.ensures)
-    ∙ ap decimal_reply (sym (facts.unsigned w c.if-w-eq0.false c.if-w-eq45.false))
-
-pub returns-in-Count-count : goal.returns-in-Count-count
-returns-in-Count-count c =
-    let w = c.args.w.now in
-    facts.plus_some (natural_of w) c.in-Count-count.n (facts.counts (natural_of w) _ c.in-Count-count.ensures)
-    ∙ ap decimal_reply (sym (facts.unsigned w c.if-w-eq0.false c.if-w-eq45.false))
+    let f : get_or w 0 0 ≡ 45 → ⊥ = elim c.in_default.branch [ in_default-via-then-w-lt1 b ↦ facts.no_dash w (grind (arith, ltb-true)) | in_default-via-else-w-lt1+in_default-1 b ↦ search rules ] in
+    facts.plus_is c.in_ok-count-in_default.field-0 (facts.counted_small _ _ c.in_ok-count-in_default.ensures)
+    ∙ ap facts.plain (sym c.in_ok-count-in_default.was) ∙ facts.unsigned w _ f c.count-in_default.ensures

@@ -1,11 +1,8 @@
 use mathlib.Core.Path.{◌≡◌}
-use Prim.Native.Nat.{◌≤◌, ◌-◌}
-use lib.ListN.{length, drop}
-use Rattle.forms.specs.Decimal.{limited, value_of}
+use Prim.Native.Nat.{◌≤◌}
+use lib.ListN.{drop}
+use Rattle.forms.specs.Decimal.{value_of, limited}
 use Rattle.forms.proofs.decimal.value.Given as goal
 
-abbrev pub invariant-loop-i : goal.invariant-loop-i
-invariant-loop-i l = (l.i ≤ length l.w) × ((l.v ≤ 1000000) × (limited (value_of l.v (drop l.i l.w)) ≡ limited (value_of 0 l.w)))
-
-abbrev pub decreases-loop-i : goal.decreases-loop-i
-decreases-loop-i l = length l.w - l.i
+abbrev pub invariant-loop-b : goal.invariant-loop-b
+invariant-loop-b l = (l.v ≤ 1000000) × (limited (value_of l.v (drop l.b-index l.w)) ≡ limited (value_of 0 l.w))

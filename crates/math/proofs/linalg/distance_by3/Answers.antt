@@ -5,15 +5,15 @@ use Rattle.math.specs.Linalg.{distance_reply}
 use Rattle.math.proofs.Answers.{solution_finite, solution_infinite}
 use Rattle.math.proofs.linalg.distance_by3.Goals as goal
 
-pub returns-then-is_finite3 : goal.returns-then-is_finite3
-returns-then-is_finite3 c =
+pub returns-then-is_finite_vector : goal.returns-then-is_finite_vector
+returns-then-is_finite_vector c =
     let test = c.before.before.before in
     let solve = test.before in
     let u = solve.args.u in
-    solution_finite 3 _ u (ap (finite_vector 3) (sym solve.solve3-x.ensures) ∙ sym test.is_finite3.ensures ∙ c.if-is_finite3.true)
-    (c.distance_of.ensures ∙ ap distance_reply (c.dot3.ensures ∙ ap (λ (x : Vector). dot 3 u x) solve.solve3-x.ensures))
+    solution_finite 3 _ u (ap (finite_vector 3) (sym solve.solve3-x.ensures) ∙ sym test.is_finite_vector.ensures ∙ c.if-is_finite_vector.true)
+    (c.distance_of.ensures ∙ ap distance_reply (c.dot.ensures ∙ ap (λ (x : Vector). dot 3 u x) solve.solve3-x.ensures))
 
-pub returns-else-is_finite3 : goal.returns-else-is_finite3
-returns-else-is_finite3 c =
+pub returns-else-is_finite_vector : goal.returns-else-is_finite_vector
+returns-else-is_finite_vector c =
     let test = c.before in
-    solution_infinite 3 _ _ (ap (finite_vector 3) (sym test.solve3-x.ensures) ∙ sym test.is_finite3.ensures ∙ c.if-is_finite3.false)
+    solution_infinite 3 _ _ (ap (finite_vector 3) (sym test.solve3-x.ensures) ∙ sym test.is_finite_vector.ensures ∙ c.if-is_finite_vector.false)

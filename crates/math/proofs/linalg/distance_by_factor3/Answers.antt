@@ -4,13 +4,13 @@ use Rattle.cholesky.specs.Factor.{reply_of_factor3}
 use Rattle.math.specs.Linalg.{distance_by}
 use Rattle.math.proofs.linalg.distance_by_factor3.Goals as goal
 
-pub returns-in-Lower : goal.returns-in-Lower
-returns-in-Lower c =
+pub returns-in-Some : goal.returns-in-Some
+returns-in-Some c =
     let known = c in
     let at = known.before in
-    c.distance_by3.ensures ∙ ap (λ f. and_then (reply_of_factor3 f) (λ l. distance_by 3 l at.args.u)) (sym known.in-Lower.is)
+    c.distance_by3.ensures ∙ ap (λ f. and_then (reply_of_factor3 f) (λ l. distance_by 3 l at.args.u)) (sym known.in-Some.is)
 
-pub returns-in-Fails : goal.returns-in-Fails
-returns-in-Fails c =
+pub returns-in-None : goal.returns-in-None
+returns-in-None c =
     let at = c.before in
-    ap (λ f. and_then (reply_of_factor3 f) (λ l. distance_by 3 l at.args.u)) (sym c.in-Fails.is)
+    ap (λ f. and_then (reply_of_factor3 f) (λ l. distance_by 3 l at.args.u)) (sym c.in-None.is)

@@ -8,15 +8,15 @@ pub returns-then-has_factor6 : goal.returns-then-has_factor6
 returns-then-has_factor6 c =
     let h = c.before in
     let told = h.before in
-    factor_decides 6 _ (ap reply_of_validity (sym told.in-Valid.is) ∙ told.check_entries6.ensures) (ap reply_of_found (sym c.if-has_factor6.true) ∙ h.has_factor6.ensures)
+    factor_decides 6 _ (ap reply_of_validity (sym told.in-Ok.is) ∙ told.check_entries.ensures) (ap reply_of_found (sym c.if-has_factor6.true) ∙ h.has_factor6.ensures)
 
 pub returns-else-has_factor6 : goal.returns-else-has_factor6
 returns-else-has_factor6 c =
     let h = c.before in
     let told = h.before in
-    factor_decides 6 _ (ap reply_of_validity (sym told.in-Valid.is) ∙ told.check_entries6.ensures) (ap reply_of_found (sym c.if-has_factor6.false) ∙ h.has_factor6.ensures)
+    factor_decides 6 _ (ap reply_of_validity (sym told.in-Ok.is) ∙ told.check_entries.ensures) (ap reply_of_found (sym c.if-has_factor6.false) ∙ h.has_factor6.ensures)
 
-pub returns-in-Refused : goal.returns-in-Refused
-returns-in-Refused c =
+pub returns-in-Err : goal.returns-in-Err
+returns-in-Err c =
     let found = c in
-    entries_decide 6 _ (ap reply_of_validity (sym found.in-Refused.is) ∙ found.check_entries6.ensures)
+    entries_decide 6 _ (ap reply_of_validity (sym found.in-Err.is) ∙ found.check_entries.ensures)

@@ -1,8 +1,9 @@
 -- The three loops keep the laws of Noting, Correcting and Bearing; each refusal is one law of Parts, and so is the end. Lemmas over the places of the function name what is known there.
+use Rattle.types.specs.declared.refusal.Refusal.{Refusal}
+use Rattle.std.specs.Prelude.{Result, None, Option, Some}
 use mathlib.Core.Path.{◌≡◌, refl, sym, ap, ◌∙◌, subst}
 use mathlib.Core.Bool.{false, cond}
 use mathlib.Core.List.{[], map}
-use mathlib.Core.Option.{Option, none, some}
 use lib.Dec.{ltb}
 use lib.IntN.{pos}
 use lib.Ieee.{nan}
@@ -21,8 +22,6 @@ use Rattle.number.specs.Reply.{Reply, refused, given}
 use Rattle.lists.specs.Each.{each_at}
 use Rattle.lists.proofs.Laying.{length_mapped}
 use Rattle.lists.proofs.Stepping.{Stepped, stepped_start}
-use Rattle.settings.specs.Optional.{i64_of}
-use Rattle.types.specs.declared.refusal.Outcome.{Outcome}
 use Rattle.detections.specs.declared.Detection.{Detection}
 use Rattle.types.specs.declared.track.Track3D.{Track3D}
 use Rattle.types.specs.Refusals.{number_of, reply_of, answered}
@@ -167,18 +166,18 @@ observation_places s = search (rules, length_mapped)
 check_is : (v : V0) → (let a = (start v).args in reply_of v.validate_batch.result ≡ batch_reply (settings_of a.t.settings).frame_id (pk_state a.t).last (pk_state a.t).sequences a.batch)
 check_is v =
     let s = start v in
-    (rw (v.settings_of-config.ensures, v.observation_of-last.ensures, to_z-of_z (last_fits s)) at v.validate_batch.ensures) ∙ check_held s.args.t s.args.batch
+    (rw (v.settings_of-config.ensures, v.flagged-last.ensures, to_z-of_z (last_fits s)) at v.validate_batch.ensures) ∙ check_held s.args.t s.args.batch
 
 ok : (e : E0) → (let a = (start e.before).args in batch_reply (settings_of a.t.settings).frame_id (pk_state a.t).last (pk_state a.t).sequences a.batch ≡ given tt)
-ok e = sym (check_is e.before) ∙ ap {B = Reply (Unit {0})} reply_of e.in-Done.is
+ok e = sym (check_is e.before) ∙ ap {B = Reply (Unit {0})} reply_of e.in-Ok.is
 
-pub returns-in-Refused : goal.returns-in-Refused
-returns-in-Refused c =
+pub returns-in-Err : goal.returns-in-Err
+returns-in-Err c =
     let v = c.before.before in
     let a = (start v).args in
-    let why = c.in-Refused.why in
+    let why = c.in-Err.why in
     batch_refuses a.t _ a.batch why c.refuse.result c.refuse.ensures
-    (check_refused a.t a.batch (number_of why) (sym (check_is v) ∙ ap {B = Reply (Unit {0})} reply_of c.in-Refused.is))
+    (check_refused a.t a.batch (number_of why) (sym (check_is v) ∙ ap {B = Reply (Unit {0})} reply_of c.in-Err.is))
 
 -- ---- the tracks are moved
 
@@ -202,15 +201,15 @@ loop-i-preserved-in-Dropped c =
       v.7,
     )
 
-pub returns-in-Refused-fate : goal.returns-in-Refused-fate
-returns-in-Refused-fate c =
+pub returns-in-Refused : goal.returns-in-Refused
+returns-in-Refused c =
     let l = c.before.before.before.before.before.before.before in
     let v = c.loop-i.invariant in
     let s = start (checked l) in
-    let why = c.in-Refused-fate.why in
+    let why = c.in-Refused.why in
     let stop = clearing_stops _ _ _ _ _ _ _ _ v.6 c.taken-all.result (number_of why) c.loop-i-test.true (omega (arith, v.1, track_places s))
-    (rw c.track_of.ensures at (sym c.carry-c.ensures ∙ ap (λ (f : Fate). fate_of f c.carry-c.result.track) c.in-Refused-fate.is)) in
-    batch_refuses s.args.t _ s.args.batch why c.refuse-in-Refused-fate.result c.refuse-in-Refused-fate.ensures
+    (rw c.track_of.ensures at (sym c.carry-c.ensures ∙ ap (λ (f : Fate). fate_of f c.carry-c.result.track) c.in-Refused.is)) in
+    batch_refuses s.args.t _ s.args.batch why c.refuse-in-Refused.result c.refuse-in-Refused.ensures
     (move_refused s.args.t s.args.batch (ok (past l)) (number_of why)
     (moves_refused s.args.t s.args.batch.timestamp c.taken-all.result (track_places s) c.taken-all.ensures (number_of why)
     (rw (to_z-of_z (time_fits s), c.settings_of-config.ensures) at stop)))
@@ -243,7 +242,7 @@ moved w =
 -- ---- they are paired
 
 matches : (p : P1) → (let l = p.before.before in let a = (start (checked l)).args in let c = settings_of a.t.settings in let ts = take l.loop-i.n (map track_of l.loop-i.t.tracks) in let ds = take a.batch.count a.batch.observations in
-    Matches (pair_config c) ts ds (takers_for (pair_config c) (i64_of c.recent_track_window_ns) a.batch.timestamp ts ds) p.pair-paired.result)
+    Matches (pair_config c) ts ds (takers_for (pair_config c) (c.recent_track_window_ns) a.batch.timestamp ts ds) p.pair-paired.result)
 matches p =
     let l = p.before.before in
     let s = start (checked l) in
@@ -258,16 +257,16 @@ array_places l = length-map l.loop-i.t.tracks track_of ∙ l.loop-i.invariant.2
 front : (w : A1) → (let l = w.before in take l.loop-i.n (map track_of l.loop-i.t.tracks) ≡ map (with_mark false) (moved w).before)
 front w = let l = w.before in let m = moved w in front_meant l.loop-i.t.tracks (start (checked l)).args.t.tracks l.loop-i.n (map (with_mark false) m.before) m.count m.slots
 
-pub returns-in-Refused-outcome : goal.returns-in-Refused-outcome
-returns-in-Refused-outcome c =
+pub returns-in-Err-outcome : goal.returns-in-Err-outcome
+returns-in-Err-outcome c =
     let p = c.before.before.before.before.before in
     let l = c.before.before.before.before.before.before.before in
     let s = start (checked l) in
     let m = moved p.before in
-    let why = c.in-Refused-outcome.why in
-    batch_refuses s.args.t _ s.args.batch why c.refuse-in-Refused-outcome.result c.refuse-in-Refused-outcome.ensures
+    let why = c.in-Err-outcome.why in
+    batch_refuses s.args.t _ s.args.batch why c.refuse-in-Err-outcome.result c.refuse-in-Err-outcome.ensures
     (pair_refused s.args.t s.args.batch (ok (past l)) m.before m.gives (map track_of l.loop-i.t.tracks) l.loop-i.n (array_places l) (observation_places s) (front p.before) p.pair-paired.result (matches p) why
-    c.in-Refused-outcome.is)
+    c.in-Err-outcome.is)
 
 -- ---- they are updated
 
@@ -295,16 +294,16 @@ abbrev turn : U2 → L2
 turn u = u.before.before.before.before.before.before
 
 took_is : (u : U2) → (let l = turn u in let ms = (paired_at l).pair-paired.result.mates in let ds = (origin l).args.batch.observations in let j = get_or ms l.loop-k.k 0 in
-    cond (ltb j 64) (some (get_or ds u.place_of.result no_detection)) none ≡ mate_of ms ds l.loop-k.k)
+    cond (ltb j 64) (Some (get_or ds u.place_of.result no_detection)) None ≡ mate_of ms ds l.loop-k.k)
 took_is u =
     let l = turn u in
     let ms = (paired_at l).pair-paired.result.mates in
     let ds = (origin l).args.batch.observations in
     let j = get_or ms l.loop-k.k 0 in
-    ap (λ (q : ℕ). cond (ltb j 64) (some (get_or ds q no_detection)) none) u.place_of.ensures ∙ took_read (how_at l) (took_at l) j ds no_detection
+    ap (λ (q : ℕ). cond (ltb j 64) (Some (get_or ds q no_detection)) None) u.place_of.ensures ∙ took_read (how_at l) (took_at l) j ds no_detection
 
 stepped_by : (u : U2) (r : Reply Track3D) → (let l = turn u in updated_or_not l.update_of-update.result u.track_of-x.result
-    (cond (ltb (get_or (paired_at l).pair-paired.result.mates l.loop-k.k 0) 64) (some (get_or (origin l).args.batch.observations u.place_of.result no_detection)) none) ≡ r
+    (cond (ltb (get_or (paired_at l).pair-paired.result.mates l.loop-k.k 0) 64) (Some (get_or (origin l).args.batch.observations u.place_of.result no_detection)) None) ≡ r
     → updated_or_not l.update_of-update.result (track_of (get_or l.loop-k.t.tracks l.loop-k.k no_pk_track)) (mate_of (paired_at l).pair-paired.result.mates (origin l).args.batch.observations l.loop-k.k) ≡ r)
 stepped_by u r e =
     let l = turn u in
@@ -324,10 +323,10 @@ loop-k-preserved-then-is_confirmed_track c =
       length-set m k _ ∙ v.2,
       length-set c.loop-k.spots c.loop-k.near _ ∙ v.3,
       omega arith,
-      ap (λ (x : PkTracker). with_pk_tracks x (set m k c.track_to-in-Done-done.result)) v.5,
-      rw c.track_to-in-Done-done.ensures (correcting_more c.update_of-update.result (took_at l) _ _ _ no_pk_track v.6 x (omega (arith, v.1, v.10, c.loop-k-test.true))
-          (stepped_by u _ (step_given c.update_where-step.ensures c.in-Done-done.is))),
-      rw (c.track_to-in-Done-done.ensures, c.spot_of.ensures, front_more m k x few)
+      ap (λ (x : PkTracker). with_pk_tracks x (set m k c.track_to-in-Ok-done.result)) v.5,
+      rw c.track_to-in-Ok-done.ensures (correcting_more c.update_of-update.result (took_at l) _ _ _ no_pk_track v.6 x (omega (arith, v.1, v.10, c.loop-k-test.true))
+          (stepped_by u _ (step_given c.update_where-step.ensures c.in-Ok-done.is))),
+      rw (c.track_to-in-Ok-done.ensures, c.spot_of.ensures, front_more m k x few)
           (spotted_more _ _ _ x v.7 (omega (arith, v.1, v.2, length-map (take k m) track_of, length-take-le k m (omega (arith, few)), c.loop-k-test.true)) (sym c.is_confirmed_track.ensures ∙ c.if-is_confirmed_track.true)),
       v.8,
       v.9,
@@ -348,10 +347,10 @@ loop-k-preserved c =
       length-set m k _ ∙ v.2,
       v.3,
       omega arith,
-      ap (λ (x : PkTracker). with_pk_tracks x (set m k c.track_to-in-Done-done.result)) v.5,
-      rw c.track_to-in-Done-done.ensures (correcting_more c.update_of-update.result (took_at l) _ _ _ no_pk_track v.6 x (omega (arith, v.1, v.10, c.loop-k-test.true))
-          (stepped_by u _ (step_given c.update_where-step.ensures c.in-Done-done.is))),
-      rw (c.track_to-in-Done-done.ensures, front_more m k x few) (spotted_same _ _ _ x v.7 (sym c.is_confirmed_track.ensures ∙ c.if-is_confirmed_track.false)),
+      ap (λ (x : PkTracker). with_pk_tracks x (set m k c.track_to-in-Ok-done.result)) v.5,
+      rw c.track_to-in-Ok-done.ensures (correcting_more c.update_of-update.result (took_at l) _ _ _ no_pk_track v.6 x (omega (arith, v.1, v.10, c.loop-k-test.true))
+          (stepped_by u _ (step_given c.update_where-step.ensures c.in-Ok-done.is))),
+      rw (c.track_to-in-Ok-done.ensures, front_more m k x few) (spotted_same _ _ _ x v.7 (sym c.is_confirmed_track.ensures ∙ c.if-is_confirmed_track.false)),
       v.8,
       v.9,
       v.10,
@@ -360,8 +359,8 @@ loop-k-preserved c =
 again : (l : L2) → (let x = (moved_at l).loop-i in take x.n x.t.tracks ≡ map track_to (take x.n (map track_of x.t.tracks)))
 again l = let w = (paired_at l).before in let x = (moved_at l).loop-i in let m = moved w in front_again x.t.tracks (origin l).args.t.tracks x.n (map (with_mark false) m.before) m.count m.slots
 
-pub returns-in-Refused-done : goal.returns-in-Refused-done
-returns-in-Refused-done c =
+pub returns-in-Err-done : goal.returns-in-Err-done
+returns-in-Err-done c =
     let u = c.before.before.before in
     let l = c.before.before.before.before.before.before.before.before.before in
     let v = c.loop-k.invariant in
@@ -369,12 +368,12 @@ returns-in-Refused-done c =
     let k = c.before.before.before.before.before.before.before.before.before.before.before.before.before.before.before.before.before.before in
     let s = start (checked k) in
     let m = moved p.before in
-    let why = c.in-Refused-done.why in
+    let why = c.in-Err-done.why in
     let stop = correcting_stops c.update_of-update.result (took_at l) _ _ _ no_pk_track v.6 k.loop-i.n (number_of why) c.loop-k-test.true (omega (arith, v.1, v.10))
-    (stepped_by u _ (step_refuses c.update_where-step.ensures why c.in-Refused-done.is)) in
-    batch_refuses s.args.t _ s.args.batch why c.refuse-in-Refused-done.result c.refuse-in-Refused-done.ensures
+    (stepped_by u _ (step_refuses c.update_where-step.ensures why c.in-Err-done.is)) in
+    batch_refuses s.args.t _ s.args.batch why c.refuse-in-Err-done.result c.refuse-in-Err-done.ensures
     (update_refused s.args.t s.args.batch (ok (past k)) m.before m.gives (map track_of k.loop-i.t.tracks) k.loop-i.n (array_places k) (observation_places s) (front p.before) p.pair-paired.result (matches p)
-    c.in-Done-outcome.is (number_of why)
+    c.in-Ok-outcome.is (number_of why)
     (updates_refused (how_at l) (took_at l) k.loop-i.t.tracks k.loop-i.n (take k.loop-i.n (map track_of k.loop-i.t.tracks)) (again l) (number_of why)
     (subst (λ (x : Update). each_at (steps_pk x (took_at l)) 0 (take k.loop-i.n k.loop-i.t.tracks) ≡ refused (number_of why)) (how_is l) stop)))
 
@@ -402,8 +401,8 @@ aged g =
     let s = origin l in
     (rw (g.settings_of-config.ensures, to_z-of_z (time_fits s)) at g.age_by-aged.ensures.is) ∙ candidates_held s.args.t l.loop-k.t _ _ (kept_fields w)
 
-pub returns-in-Refused-stayed : goal.returns-in-Refused-stayed
-returns-in-Refused-stayed c =
+pub returns-in-Err-stayed : goal.returns-in-Err-stayed
+returns-in-Err-stayed c =
     let g = c.before.before.before in
     let w = c.before.before.before.before.before in
     let p = c.before.before.before.before.before.before.before.before.before.before.before.before.before in
@@ -411,10 +410,10 @@ returns-in-Refused-stayed c =
     let s = start (checked k) in
     let m = moved p.before in
     let u = corrected w in
-    let why = c.in-Refused-stayed.why in
-    batch_refuses s.args.t _ s.args.batch why c.refuse-in-Refused-stayed.result c.refuse-in-Refused-stayed.ensures
+    let why = c.in-Err-stayed.why in
+    batch_refuses s.args.t _ s.args.batch why c.refuse-in-Err-stayed.result c.refuse-in-Err-stayed.ensures
     (age_refused s.args.t s.args.batch (ok (past k)) m.before m.gives (map track_of k.loop-i.t.tracks) k.loop-i.n (array_places k) (observation_places s) (front p.before) p.pair-paired.result (matches p)
-    c.in-Done-outcome.is u.tracks u.gives (number_of why) (sym (aged g) ∙ ap (λ (o : Outcome). answered o (list_of g.age_by-aged.result.candidates)) c.in-Refused-stayed.is))
+    c.in-Ok-outcome.is u.tracks u.gives (number_of why) (sym (aged g) ∙ ap (λ (o : Result (Unit {0}) Refusal). answered o (list_of g.age_by-aged.result.candidates)) c.in-Err-stayed.is))
 
 -- ---- where the births began
 
@@ -569,10 +568,10 @@ joined l =
     (start_is a.t k.loop-k.t (moved_at k).loop-i.n a.batch.timestamp u.tracks (list_of (aged_at l).age_by-aged.result.candidates) (kept_fields w) (us_front w))
 
 stay : (l : L3) → (let a = (origin (second l)).args in remaining (settings_of a.t.settings).birth_candidate_timeout_ns a.batch.timestamp (pk_state a.t).candidates ≡ given (list_of (aged_at l).age_by-aged.result.candidates))
-stay l = let g = aged_at l in sym (aged g) ∙ ap (λ (o : Outcome). answered o (list_of g.age_by-aged.result.candidates)) l.in-Done-stayed.is
+stay l = let g = aged_at l in sym (aged g) ∙ ap (λ (o : Result (Unit {0}) Refusal). answered o (list_of g.age_by-aged.result.candidates)) l.in-Ok-stayed.is
 
-pub returns-in-Refused-fate-2 : goal.returns-in-Refused-fate-2
-returns-in-Refused-fate-2 c =
+pub returns-in-Refused-fate : goal.returns-in-Refused-fate
+returns-in-Refused-fate c =
     let l = c.before.before.before.before.before.before.before.before.before in
     let v = c.loop-j.invariant in
     let j = c.loop-j.j in
@@ -583,11 +582,11 @@ returns-in-Refused-fate-2 c =
     let s = start (checked k) in
     let m = moved p.before in
     let u = corrected (updated_at l) in
-    let why = c.in-Refused-fate-2.why in
-    let stop = bearing_stops _ _ _ _ _ _ _ _ _ _ _ _ _ no_column v.8 (omega (arith, columns_long l, h)) (omega (arith, v.1, h)) _ _ (column l j h) c.if-p.false (number_of why) (fated_by _ r _ c.consider-x.ensures _ c.in-Refused-fate-2.is) in
-    batch_refuses s.args.t _ s.args.batch why c.refuse-in-Refused-fate-2.result c.refuse-in-Refused-fate-2.ensures
+    let why = c.in-Refused-fate.why in
+    let stop = bearing_stops _ _ _ _ _ _ _ _ _ _ _ _ _ no_column v.8 (omega (arith, columns_long l, h)) (omega (arith, v.1, h)) _ _ (column l j h) c.if-p.false (number_of why) (fated_by _ r _ c.consider-x.ensures _ c.in-Refused-fate.is) in
+    batch_refuses s.args.t _ s.args.batch why c.refuse-in-Refused-fate.result c.refuse-in-Refused-fate.ensures
     (births_refused s.args.t s.args.batch (ok (past k)) m.before m.gives (map track_of k.loop-i.t.tracks) k.loop-i.n (array_places k) (observation_places s) (front p.before) p.pair-paired.result (matches p)
-    c.in-Done-outcome.is u.tracks u.gives (list_of (aged_at l).age_by-aged.result.candidates) (stay l) (number_of why) (sym (joined l) ∙ stop))
+    c.in-Ok-outcome.is u.tracks u.gives (list_of (aged_at l).age_by-aged.result.candidates) (stay l) (number_of why) (sym (joined l) ∙ stop))
 
 number_places : (p : P1) → length p.pair-paired.result.unmatched ≡ 64
 number_places p = search (rules, length_mapped)
@@ -612,11 +611,11 @@ returns c =
     let cfg = settings_of t.settings in
     let ds = take s.args.batch.count s.args.batch.observations in
     let given-all = batch_given t s.args.batch (ok (past k)) m.before m.gives array k.loop-i.n (array_places k) (observation_places s) (front p.before) p.pair-paired.result a
-    y.in-Done-outcome.is u.tracks u.gives (list_of (aged_at l).age_by-aged.result.candidates) (stay l) w.so_far bears in
+    y.in-Ok-outcome.is u.tracks u.gives (list_of (aged_at l).age_by-aged.result.candidates) (stay l) w.so_far bears in
     rw (to_z-of_z (time_fits s))
     (batch_carried t _ s.args.batch _ _ given-all
     (batch_whole t s.args.batch (ok (past k)) m.before m.gives array k.loop-i.n (array_places k) (observation_places s) (front p.before) p.pair-paired.result a
-    y.in-Done-outcome.is u.tracks u.gives (list_of (aged_at l).age_by-aged.result.candidates) (stay l) w.so_far bears
+    y.in-Ok-outcome.is u.tracks u.gives (list_of (aged_at l).age_by-aged.result.candidates) (stay l) w.so_far bears
     l.loop-j.t k.loop-i.t.tracks y.loop-k.t.tracks l.loop-j.t.tracks l.loop-j.n l.loop-j.id c.note-noted.result.count c.laid-laid.result.count c.note-noted.result.entries c.laid-laid.result.items
     ex m.slots u.slots w.tracks w.count w.next
     (ap (λ (x : Sequences). x.entries) c.note-noted.ensures ∙ ap (λ (x : PkTracker). lay (noted_in 32 s.args.batch.sensor_id s.args.batch.sequence (take x.sequence_count t.sequences)) t.sequences) ex)
@@ -624,8 +623,8 @@ returns c =
     (ap (λ (x : Candidates). x.items) c.laid-laid.ensures ∙ (λ i. lay (sym w.candidates i) (kept_fields (updated_at l) i).candidates))
     (ap (λ (x : Candidates). x.count) c.laid-laid.ensures ∙ ap length (sym w.candidates)))
     (batch_reported t s.args.batch (ok (past k)) m.before m.gives array k.loop-i.n (array_places k) (observation_places s) (front p.before) p.pair-paired.result a
-    y.in-Done-outcome.is u.tracks u.gives (list_of (aged_at l).age_by-aged.result.candidates) (stay l) w.so_far bears
-    l.loop-j.associations (few_seen (past k)) (pair_places p) (number_places p) (few_numbers (take k.loop-i.n array) ds (takers_for (pair_config cfg) (i64_of cfg.recent_track_window_ns) s.args.batch.timestamp (take k.loop-i.n array) ds) p.pair-paired.result.unmatched p.pair-paired.result.unmatched_count few a.unmatched) (numbers_listed _ _ _ a.unmatched) w.slots))
+    y.in-Ok-outcome.is u.tracks u.gives (list_of (aged_at l).age_by-aged.result.candidates) (stay l) w.so_far bears
+    l.loop-j.associations (few_seen (past k)) (pair_places p) (number_places p) (few_numbers (take k.loop-i.n array) ds (takers_for (pair_config cfg) (cfg.recent_track_window_ns) s.args.batch.timestamp (take k.loop-i.n array) ds) p.pair-paired.result.unmatched p.pair-paired.result.unmatched_count few a.unmatched) (numbers_listed _ _ _ a.unmatched) w.slots))
 
 -- ---- places and sums that are in range
 
@@ -680,11 +679,11 @@ offset_bounds-observations-place_of c = omega (arith, c.loop-k-test.true, c.loop
 pub bounds-observations-place_of : goal.bounds-observations-place_of
 bounds-observations-place_of c = search (rules, place_few (get_or c.pair-paired.result.mates c.loop-k.k 0) c.place_of.result c.place_of.ensures)
 
-pub offset_bounds-t-k-in-Done-done : goal.offset_bounds-t-k-in-Done-done
-offset_bounds-t-k-in-Done-done c = omega (arith, c.loop-k-test.true, c.loop-k.invariant.0, c.loop-k.invariant.1, c.loop-k.invariant.2, c.loop-k.invariant.3, c.loop-k.invariant.4, c.loop-k.invariant.8, c.loop-k.invariant.9)
+pub offset_bounds-t-k-in-Ok-done : goal.offset_bounds-t-k-in-Ok-done
+offset_bounds-t-k-in-Ok-done c = omega (arith, c.loop-k-test.true, c.loop-k.invariant.0, c.loop-k.invariant.1, c.loop-k.invariant.2, c.loop-k.invariant.3, c.loop-k.invariant.4, c.loop-k.invariant.8, c.loop-k.invariant.9)
 
-pub bounds-t-k-in-Done-done : goal.bounds-t-k-in-Done-done
-bounds-t-k-in-Done-done c = search (rules, c.loop-k-test.true, c.loop-k.invariant.0, c.loop-k.invariant.1, c.loop-k.invariant.2, c.loop-k.invariant.3, c.loop-k.invariant.4, c.loop-k.invariant.8, c.loop-k.invariant.9)
+pub bounds-t-k-in-Ok-done : goal.bounds-t-k-in-Ok-done
+bounds-t-k-in-Ok-done c = search (rules, c.loop-k-test.true, c.loop-k.invariant.0, c.loop-k.invariant.1, c.loop-k.invariant.2, c.loop-k.invariant.3, c.loop-k.invariant.4, c.loop-k.invariant.8, c.loop-k.invariant.9)
 
 pub overflow_add-k : goal.overflow_add-k
 overflow_add-k c = omega (arith, c.loop-k-test.true, c.loop-k.invariant.0, c.loop-k.invariant.1, c.loop-k.invariant.2, c.loop-k.invariant.3, c.loop-k.invariant.4, c.loop-k.invariant.8, c.loop-k.invariant.9)

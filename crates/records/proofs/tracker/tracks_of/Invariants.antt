@@ -7,6 +7,3 @@ use Rattle.records.proofs.tracker.tracks_of.Given as goal
 
 abbrev pub invariant-loop-i : goal.invariant-loop-i
 invariant-loop-i l = (l.i ≤ 64) × (length l.t.tracks ≡ 64) × (length l.initial.out ≡ 64) × Filled track_of l.t.tracks l.initial.out l.out l.i
-
-abbrev pub decreases-loop-i : goal.decreases-loop-i
-decreases-loop-i l = 64 - l.i

@@ -7,6 +7,3 @@ use Rattle.records.proofs.tracker.tracks_over.Given as goal
 
 abbrev pub invariant-loop-i : goal.invariant-loop-i
 invariant-loop-i l = (l.i ≤ l.n) × (l.n ≡ min l.u.track_count 64) × (length l.u.tracks ≡ 64) × (length l.initial.out ≡ 64) × Filled track_to l.u.tracks l.initial.out l.out l.i
-
-abbrev pub decreases-loop-i : goal.decreases-loop-i
-decreases-loop-i l = l.n - l.i

@@ -1,39 +1,48 @@
--- The rows are read behind `(assign `, and the rest is `with_columns`; each branch is one equation of `head_of`.
-use borrow.Author.Rules.{rules}
-use mathlib.Core.Path.{ap, sym, ◌∙◌}
+-- The rows are read behind `(assign `, then the columns and the row cost.
+use Rattle.std.proofs.Common.{rules, ◌≡◌, length, sym, ◌∙◌, Bool, true, false, List, ℕ, take, eqb, SFits, w32}
+use Rattle.std.proofs.lemmas.Int.{to_z-of_z}
+use Rattle.std.specs.Cmp.Lexicographic.{pointwise}
 use Rattle.forms.specs.Bytes.{bytes_of}
-use Rattle.request.specs.Request.{head_answer, opening}
-use Rattle.request.proofs.Numbers.{begins_long}
-use Rattle.request.proofs.Heads.{head_other, head_none, head_minus, head_plus, plus_got}
+use Rattle.request.specs.Request.{begins, opening, argument_of, count_of}
+use Rattle.request.proofs.Lists.{found_got}
+use Rattle.request.proofs.Numbers.{begins_is}
+use Rattle.request.proofs.Heads.{argument_leaves, count_leaves, head_other, head_no_rows, head_no_columns, head_no_cost, head_stated}
 use Rattle.request.proofs.head.read_head.Goals as goal
 
-pub returns-then-not-stands : goal.returns-then-not-stands
-unfolding opening bytes_of
-returns-then-not-stands c = head_other c.args.s.now (search rules)
+stands : (s : List ℕ) (r b : Bool) → r ≡ pointwise eqb opening (take (length opening) s) → r ≡ b → begins opening s ≡ b
+stands s r b e f = sym (begins_is opening s) ∙ sym e ∙ f
 
-pub argument-requires : goal.argument-requires
+pub returns-then-not-starts_with : goal.returns-then-not-starts_with
 unfolding opening bytes_of
-argument-requires c = begins_long opening c.args.s.now ((search rules))
+returns-then-not-starts_with c = head_other c.args.s.now (stands c.args.s.now _ false c.starts_with.ensures.value (search rules))
 
-pub with_columns-requires : goal.with_columns-requires
-with_columns-requires c = ((let s = c.args.s.now in
-    plus_got s 8 c.in-Plus.n c.in-Plus.e (sym c.in-Plus.is ∙ c.argument.ensures))).within
-
-pub returns-in-NoNumber : goal.returns-in-NoNumber
+pub returns-in_err-rows : goal.returns-in_err-rows
 unfolding opening bytes_of
-returns-in-NoNumber c =
+returns-in_err-rows c =
+    rw c.from_residual.ensures (head_no_rows c.args.s.now (stands c.args.s.now _ true c.starts_with.ensures.value (search rules)) c.in_err-rows.ensures)
+
+pub returns-in_err-columns : goal.returns-in_err-columns
+unfolding opening bytes_of
+returns-in_err-columns c =
     let s = c.args.s.now in
-    head_none s ((search rules)) (sym c.in-NoNumber.is ∙ c.argument.ensures)
+    let r = found_got count_of count_leaves s 8 c.in_ok-rows.rows c.in_ok-rows.ensures in
+    rw c.from_residual-in_err-columns.ensures (head_no_columns s (stands s _ true c.starts_with.ensures.value (search rules)) _ _ r c.in_err-columns.ensures)
 
-pub returns-in-Minus : goal.returns-in-Minus
+pub returns-in_err-cost : goal.returns-in_err-cost
 unfolding opening bytes_of
-returns-in-Minus c =
+returns-in_err-cost c =
     let s = c.args.s.now in
-    head_minus s ((search rules)) c.in-Minus.field-0 c.in-Minus.field-1 (sym c.in-Minus.is ∙ c.argument.ensures)
+    let r = found_got count_of count_leaves s 8 c.in_ok-rows.rows c.in_ok-rows.ensures in
+    let k = found_got count_of count_leaves s c.in_ok-rows.rows.end c.in_ok-columns.columns c.in_ok-columns.ensures in
+    rw c.from_residual-in_err-cost.ensures (head_no_cost s (stands s _ true c.starts_with.ensures.value (search rules)) _ _ r _ _ k c.in_err-cost.ensures)
 
-pub returns-in-Plus : goal.returns-in-Plus
+pub returns : goal.returns
 unfolding opening bytes_of
-returns-in-Plus c =
+returns c =
     let s = c.args.s.now in
-    c.with_columns.ensures ∙ ap (head_answer s) (sym (head_plus s ((search rules)) c.in-Plus.n c.in-Plus.e ((let s = c.args.s.now in
-    plus_got s 8 c.in-Plus.n c.in-Plus.e (sym c.in-Plus.is ∙ c.argument.ensures)))))
+    let r = found_got count_of count_leaves s 8 c.in_ok-rows.rows c.in_ok-rows.ensures in
+    let k = found_got count_of count_leaves s c.in_ok-rows.rows.end c.in_ok-columns.columns c.in_ok-columns.ensures in
+    let q = found_got argument_of argument_leaves s c.in_ok-columns.columns.end c.in_ok-cost.cost c.in_ok-cost.ensures in
+    let z = c.in_ok-cost.cost.value in
+    let f : SFits w32 z = search rules in
+    rw (c.from.ensures, to_z-of_z w32 z f) (head_stated s (stands s _ true c.starts_with.ensures.value (search rules)) _ _ r _ _ k z _ q)

@@ -4,12 +4,12 @@ use Rattle.settings.proofs.check.checked.Goals as goal
 
 pub returns-then-bad : goal.returns-then-bad
 unfolding next
-returns-then-bad c = rw (c.in-Accepted.is, c.if-bad.true) refl
+returns-then-bad c = rw (c.in-Ok.is, c.if-bad.true) refl
 
 pub returns-else-bad : goal.returns-else-bad
 unfolding next
-returns-else-bad c = rw (c.in-Accepted.is, c.if-bad.false) refl
+returns-else-bad c = rw (c.in-Ok.is, c.if-bad.false) refl
 
-pub returns-in-BadField : goal.returns-in-BadField
+pub returns-in-Err : goal.returns-in-Err
 unfolding next
-returns-in-BadField c = rw c.in-BadField.is refl
+returns-in-Err c = rw c.in-Err.is refl

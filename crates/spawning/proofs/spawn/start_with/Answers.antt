@@ -3,8 +3,8 @@ use Rattle.spawning.proofs.spawn.start_with.Goals as goal
 pub returns-in-None : goal.returns-in-None
 returns-in-None c = rw c.in-None.is
 
-pub returns-in-Unmeasured : goal.returns-in-Unmeasured
-returns-in-Unmeasured c = rw (c.in-Some.is, c.in-Unmeasured.is)
+pub returns-in-None-velocity : goal.returns-in-None-velocity
+returns-in-None-velocity c = rw (c.in-Some.is, c.in-None-velocity.is)
 
-pub returns-in-Measured : goal.returns-in-Measured
-returns-in-Measured c = rw (c.in-Some.is, c.in-Measured.is)
+pub returns-in-Some-velocity : goal.returns-in-Some-velocity
+returns-in-Some-velocity c = rw (c.in-Some.is, c.in-Some-velocity.is)

@@ -7,6 +7,3 @@ use Rattle.tables.proofs.sequences.insert.Given as goal
 
 abbrev pub invariant-loop-j : goal.invariant-loop-j
 invariant-loop-j l = (l.j ≤ l.n) × (l.n < 32) × (length l.initial.entries ≡ 32) × Opened no_sequence l.initial.waiting l.at l.initial.entries l.entries l.j l.waiting
-
-abbrev pub decreases-loop-j : goal.decreases-loop-j
-decreases-loop-j l = l.n - l.j

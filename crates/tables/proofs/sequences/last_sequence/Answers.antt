@@ -13,23 +13,23 @@ use Rattle.tables.proofs.sequences.last_sequence.Reads as reads
 sized : (c : (lts.Start tie.the-claims reads.Pre reads.Post)) → length c.args.entries ≡ 32
 sized c = search (rules, length_mapped)
 
-below : (c : (lts.Past-After-known_told tie.the-claims reads.Pre reads.Post)) → c.in-At.i < 32
+below : (c : (lts.Past-After-known_told tie.the-claims reads.Pre reads.Post)) → c.in-Some.i < 32
 below c =
     let f = c.before in
     let n = f.taken-n in
     let a = f.args in
-    omega (arith, n.ensures, seat_inside a.entries a.count n.result a.sensor (sized f.before.before) n.ensures f.seat_of.result f.seat_of.ensures c.in-At.i c.in-At.is)
+    omega (arith, n.ensures, seat_inside a.entries a.count n.result a.sensor (sized f.before.before) n.ensures f.seat_of.result f.seat_of.ensures c.in-Some.i c.in-Some.is)
 
-pub returns-in-Nowhere : goal.returns-in-Nowhere
-returns-in-Nowhere c =
+pub returns-in-None : goal.returns-in-None
+returns-in-None c =
     let f = c.before in
     let n = f.taken-n in
     let a = f.args in
-    sym (last_is_nowhere a.entries a.count n.result a.sensor (sized f.before.before) n.ensures f.seat_of.result f.seat_of.ensures c.in-Nowhere.is)
+    sym (last_is_nowhere a.entries a.count n.result a.sensor (sized f.before.before) n.ensures f.seat_of.result f.seat_of.ensures c.in-None.is)
 
 pub returns-then-e-sensor : goal.returns-then-e-sensor
 returns-then-e-sensor c =
-    let i = c.in-At in
+    let i = c.in-Some in
     let f = c.before.before.before.before in
     let n = f.taken-n in
     let a = f.args in
@@ -37,7 +37,7 @@ returns-then-e-sensor c =
 
 pub returns-else-e-sensor : goal.returns-else-e-sensor
 returns-else-e-sensor c =
-    let i = c.in-At in
+    let i = c.in-Some in
     let f = c.before.before.before.before in
     let n = f.taken-n in
     let a = f.args in

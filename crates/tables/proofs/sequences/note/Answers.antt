@@ -15,21 +15,21 @@ sized : (c : (lts.Start tie.the-claims reads.Pre reads.Post)) → length c.args.
 sized c = search (rules, length_mapped)
 
 -- the place is one of those that are taken
-within_unread : (c : (lts.Past-After-known_told-unread tie.the-claims reads.Pre reads.Post)) → c.in-At.i < c.taken-n.result
+within_unread : (c : (lts.Past-After-known_told-unread tie.the-claims reads.Pre reads.Post)) → c.in-Some.i < c.taken-n.result
 within_unread c =
     let f = c.before in
     let n = f.taken-n in
     let a = f.args in
-    seat_inside a.s.entries a.s.count n.result a.sensor (sized f.before.before.before) n.ensures f.seat_of.result f.seat_of.ensures c.in-At.i c.in-At.is
+    seat_inside a.s.entries a.s.count n.result a.sensor (sized f.before.before.before) n.ensures f.seat_of.result f.seat_of.ensures c.in-Some.i c.in-Some.is
 
-within : (c : (lts.Past-After-known_told tie.the-claims reads.Pre reads.Post)) → c.in-At.i < c.taken-n.result
+within : (c : (lts.Past-After-known_told tie.the-claims reads.Pre reads.Post)) → c.in-Some.i < c.taken-n.result
 within c =
     let f = c.before in
     let n = f.taken-n in
     let a = f.args in
-    seat_inside a.s.entries a.s.count n.result a.sensor (sized f.before.before.before) n.ensures f.seat_of.result f.seat_of.ensures c.in-At.i c.in-At.is
+    seat_inside a.s.entries a.s.count n.result a.sensor (sized f.before.before.before) n.ensures f.seat_of.result f.seat_of.ensures c.in-Some.i c.in-Some.is
 
-below : (c : (lts.Past-After-known_told tie.the-claims reads.Pre reads.Post)) → c.in-At.i < 32
+below : (c : (lts.Past-After-known_told tie.the-claims reads.Pre reads.Post)) → c.in-Some.i < 32
 below c = omega (arith, c.taken-n.ensures, within c)
 
 pub insert-requires-else-entries-i : goal.insert-requires-else-entries-i
@@ -37,17 +37,17 @@ insert-requires-else-entries-i c =
     let at = c.before in
     omega (arith, at.taken-n.ensures, within at)
 
-pub returns-in-Nowhere : goal.returns-in-Nowhere
-returns-in-Nowhere c =
+pub returns-in-None : goal.returns-in-None
+returns-in-None c =
     let f = c.before.before in
     let n = f.taken-n in
     let a = f.args in
     c.insert.ensures
-    ∙ ap (over a.s) (noted_behind a.s.entries a.s.count n.result a.sensor (sized f.before.before.before) n.ensures f.seat_of.result f.seat_of.ensures a.sequence c.in-Nowhere.is)
+    ∙ ap (over a.s) (noted_behind a.s.entries a.s.count n.result a.sensor (sized f.before.before.before) n.ensures f.seat_of.result f.seat_of.ensures a.sequence c.in-None.is)
 
 pub returns-then-entries-i : goal.returns-then-entries-i
 returns-then-entries-i c =
-    let i = c.in-At in
+    let i = c.in-Some in
     let f = c.before.before in
     let n = f.taken-n in
     let a = f.args in
@@ -55,7 +55,7 @@ returns-then-entries-i c =
 
 pub returns-else-entries-i : goal.returns-else-entries-i
 returns-else-entries-i c =
-    let i = c.in-At in
+    let i = c.in-Some in
     let f = c.before.before.before in
     let n = f.taken-n in
     let a = f.args in

@@ -8,6 +8,3 @@ use Rattle.tables.proofs.sequences.seat_of.Given as goal
 
 abbrev pub invariant-loop-i : goal.invariant-loop-i
 invariant-loop-i l = (l.i ≤ l.n) × (length l.entries ≡ 32) × Missed (not_before l.sensor) no_sequence l.entries l.i
-
-abbrev pub decreases-loop-i : goal.decreases-loop-i
-decreases-loop-i l = l.n - l.i

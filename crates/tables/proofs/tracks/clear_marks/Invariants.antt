@@ -15,6 +15,3 @@ invariant-loop-i l =
     × (length l.initial.s.tracks ≡ 64)
     × Mapped (with_mark false) l.initial.s.tracks l.s.tracks l.i
     × (l.s ≡ with_tables (table l.s.tracks l.initial.s.track_count) (sequence_table l.initial.s) (candidate_table l.initial.s) l.initial.s)
-
-abbrev pub decreases-loop-i : goal.decreases-loop-i
-decreases-loop-i l = l.n - l.i

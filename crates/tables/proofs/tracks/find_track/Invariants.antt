@@ -8,6 +8,3 @@ use Rattle.tables.proofs.tracks.find_track.Given as goal
 
 abbrev pub invariant-loop-i : goal.invariant-loop-i
 invariant-loop-i l = (l.i ≤ l.n) × (l.n ≤ 64) × (length l.s.tracks ≡ 64) × Missed (numbered l.id) no_track l.s.tracks l.i
-
-abbrev pub decreases-loop-i : goal.decreases-loop-i
-decreases-loop-i l = l.n - l.i

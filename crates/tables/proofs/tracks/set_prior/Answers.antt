@@ -18,27 +18,27 @@ use Rattle.tables.proofs.tracks.set_prior.Reads as reads
 sized : (c : (lts.Start tie.the-claims reads.Pre reads.Post)) → length c.args.s.tracks ≡ 64
 sized c = search (rules, length_mapped)
 
-below : (c : (lts.Past-After-known_told tie.the-claims reads.Pre reads.Post)) → c.in-At.i < 64
+below : (c : (lts.Past-After-known_told tie.the-claims reads.Pre reads.Post)) → c.in-Some.i < 64
 unfolding tracks_of
 below c =
     let f = c.before in
     let n = f.taken-n in
     let a = f.args in
-    omega (arith, n.ensures, inside a.s.tracks 64 a.s.track_count n.result (sized f.before.before) n.ensures (numbered a.id) no_track f.find_track.result f.find_track.ensures c.in-At.i c.in-At.is)
+    omega (arith, n.ensures, inside a.s.tracks 64 a.s.track_count n.result (sized f.before.before) n.ensures (numbered a.id) no_track f.find_track.result f.find_track.ensures c.in-Some.i c.in-Some.is)
 
-pub returns-in-Nowhere : goal.returns-in-Nowhere
+pub returns-in-None : goal.returns-in-None
 unfolding tracks_of
-returns-in-Nowhere c =
+returns-in-None c =
     let f = c.before in
     let n = f.taken-n in
     let a = f.args in
     tracks_are a.s (change_first (numbered a.id) (with_prior a.prior)) _
-    (same a.s.tracks 64 a.s.track_count n.result (sized f.before.before) n.ensures (numbered a.id) no_track f.find_track.result f.find_track.ensures (with_prior a.prior) c.in-Nowhere.is)
+    (same a.s.tracks 64 a.s.track_count n.result (sized f.before.before) n.ensures (numbered a.id) no_track f.find_track.result f.find_track.ensures (with_prior a.prior) c.in-None.is)
 
-pub returns-in-At : goal.returns-in-At
+pub returns-in-Some : goal.returns-in-Some
 unfolding tracks_of
-returns-in-At c =
-    let i = c.in-At in
+returns-in-Some c =
+    let i = c.in-Some in
     let f = c.before.before.before in
     let n = f.taken-n in
     let a = f.args in
@@ -51,8 +51,8 @@ offset_bounds-s-i c = omega (arith, below c)
 pub bounds-s-i : goal.bounds-s-i
 bounds-s-i c = below c
 
-pub offset_bounds-s-i-in-At : goal.offset_bounds-s-i-in-At
-offset_bounds-s-i-in-At c = omega (arith, below c.before.before)
+pub offset_bounds-s-i-in-Some : goal.offset_bounds-s-i-in-Some
+offset_bounds-s-i-in-Some c = omega (arith, below c.before.before)
 
-pub bounds-s-i-in-At : goal.bounds-s-i-in-At
-bounds-s-i-in-At c = below c.before.before
+pub bounds-s-i-in-Some : goal.bounds-s-i-in-Some
+bounds-s-i-in-Some c = below c.before.before

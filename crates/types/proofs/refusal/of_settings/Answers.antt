@@ -1,4 +1,4 @@
 use Rattle.types.proofs.refusal.of_settings.Goals as goal
 
-pub returns-in-BadField : goal.returns-in-BadField
-returns-in-BadField c = rw c.in-BadField.is
+pub returns-in-Err : goal.returns-in-Err
+returns-in-Err c = rw c.in-Err.is

@@ -1,0 +1,7 @@
+use Rattle.std.proofs.Common.{rules}
+use Rattle.std.specs.Float.{nan}
+use Rattle.matrix.proofs.Filled.{filled}
+use Rattle.congruence.proofs.column.Goals as goal
+
+pub returns : goal.returns
+returns g c = filled _ _ _ _ (λ k b y q r. (search rules, search rules)) _ nan c.from_fn.ensures.items

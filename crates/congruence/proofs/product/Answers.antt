@@ -1,0 +1,9 @@
+use Rattle.std.proofs.Common.{rules}
+use mathlib.Core.List.{[]}
+use Rattle.matrix.specs.Matrix.{product}
+use Rattle.matrix.proofs.Filled.{filled}
+use Rattle.congruence.proofs.product.Goals as goal
+
+pub returns : goal.returns
+unfolding product
+returns g c = filled _ _ _ _ (λ k b y q r. (search rules, search rules)) _ [] c.from_fn.ensures.items

@@ -1,7 +1,0 @@
-use mathlib.Core.Bool.{◌&&◌}
-use Rattle.finite.specs.Finite.{finite_matrix}
-use Rattle.finite6.proofs.each_finite_6x3.Goals as goal
-
-pub returns : goal.returns
-unfolding finite_matrix
-returns c = λ i. (c.is_finite3.ensures i) && (c.is_finite3-2.ensures i) && (c.is_finite3-3.ensures i) && (c.is_finite3-4.ensures i) && (c.is_finite3-5.ensures i) && (c.is_finite3-6.ensures i)

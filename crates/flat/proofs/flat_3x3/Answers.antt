@@ -1,7 +1,0 @@
-use Rattle.matrix.specs.Flat.{flat_of}
-use mathlib.Core.Path.{refl}
-use Rattle.flat.proofs.flat_3x3.Goals as goal
-
-pub returns : goal.returns
-unfolding flat_of
-returns c = refl

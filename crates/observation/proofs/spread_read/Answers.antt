@@ -1,0 +1,7 @@
+use Rattle.std.proofs.Common.{rules}
+use mathlib.Core.List.{[]}
+use Rattle.matrix.proofs.Filled.{filled}
+use Rattle.observation.proofs.spread_read.Goals as goal
+
+pub returns : goal.returns
+returns g c = filled _ _ _ _ (λ k b y q r. (search rules, search rules)) _ [] c.from_fn.ensures.items

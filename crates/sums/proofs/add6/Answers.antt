@@ -1,7 +1,0 @@
-use Rattle.matrix.specs.Matrix.{plus_vector}
-use mathlib.Core.Path.{refl}
-use Rattle.sums.proofs.add6.Goals as goal
-
-pub returns : goal.returns
-unfolding plus_vector
-returns c = refl

@@ -1,7 +1,0 @@
-use Rattle.matrix.specs.Matrix.{minus_vector}
-use mathlib.Core.Path.{refl}
-use Rattle.sums.proofs.sub2.Goals as goal
-
-pub returns : goal.returns
-unfolding minus_vector
-returns c = refl

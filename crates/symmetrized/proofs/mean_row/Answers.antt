@@ -1,0 +1,9 @@
+use Rattle.std.proofs.Common.{rules}
+use Rattle.std.specs.Float.{nan}
+use Rattle.matrix.specs.Matrix.{mean_row}
+use Rattle.matrix.proofs.Filled.{filled}
+use Rattle.symmetrized.proofs.mean_row.Goals as goal
+
+pub returns : goal.returns
+unfolding mean_row
+returns g c = filled _ _ _ _ (λ k b y q r. (search rules, search rules)) _ nan c.from_fn.ensures.items

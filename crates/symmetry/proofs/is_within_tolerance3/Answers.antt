@@ -1,6 +1,0 @@
-use Rattle.symmetry.specs.Symmetry.{is_symmetric}
-use Rattle.symmetry.proofs.is_within_tolerance3.Goals as goal
-
-pub returns : goal.returns
-unfolding is_symmetric
-returns c = cc

@@ -1,6 +1,0 @@
-use Rattle.symmetry.specs.Symmetry.{largest_in_row}
-use Rattle.symmetry.proofs.largest_in_row3.Goals as goal
-
-pub returns : goal.returns
-unfolding largest_in_row
-returns c = cc
