@@ -90,14 +90,13 @@ pub fn process_batch(mut t: PkTracker, batch: ObservationBatch3D) -> Ran
     let blank = pairing::blank_row();
     let mut rows = [blank; MAX_TRACKS];
     let mut n: usize = 0;
-    let mut i: usize = 0;
-    while i < all {
+    for i in 0..all {
         let c = moving::carry(records::tracks::track_of(t.tracks[i]), time, life, density);
         let fate = c.fate;
         let moved = c.track;
         match fate {
             Fate::Dropped => {
-                i += 1;
+                continue;
             }
             Fate::Refused(why) => {
                 return refuse(t, why);
@@ -107,7 +106,6 @@ pub fn process_batch(mut t: PkTracker, batch: ObservationBatch3D) -> Ran
                 t.tracks[n] = records::tracks::track_to(x);
                 rows[n] = pairing::row_of(x);
                 n += 1;
-                i += 1;
             }
         }
     }
@@ -126,8 +124,7 @@ pub fn process_batch(mut t: PkTracker, batch: ObservationBatch3D) -> Ran
     let nowhere = spawning::ruling::no_spot();
     let mut spots = [nowhere; MAX_TRACKS];
     let mut near: usize = 0;
-    let mut k: usize = 0;
-    while k < n {
+    for k in 0..n {
         let j = mates[k];
         let x = records::tracks::track_of(t.tracks[k]);
         let step = updating::update_where(
@@ -144,11 +141,11 @@ pub fn process_batch(mut t: PkTracker, batch: ObservationBatch3D) -> Ran
             }
             Ok(()) => {
                 t.tracks[k] = records::tracks::track_to(y);
-                k += 1;
-                if spawning::ruling::is_confirmed_track(y) {
-                    spots[near] = spawning::ruling::spot_of(y);
-                    near += 1;
+                if !spawning::ruling::is_confirmed_track(y) {
+                    continue;
                 }
+                spots[near] = spawning::ruling::spot_of(y);
+                near += 1;
             }
         }
     }
@@ -173,12 +170,10 @@ pub fn process_batch(mut t: PkTracker, batch: ObservationBatch3D) -> Ran
     let blank_association = birth_stage::alone(0);
     let mut associations = [blank_association; MAX_OBSERVATIONS];
     let mut id = t.next_track_id;
-    let mut j: usize = 0;
-    while j < count {
+    for j in 0..count {
         let p = pairs[j];
         if p.taken {
             associations[j] = birth_stage::paired(j, p.track, p.cost);
-            j += 1;
             continue;
         }
         let x = birth_stage::one::consider(
@@ -198,7 +193,7 @@ pub fn process_batch(mut t: PkTracker, batch: ObservationBatch3D) -> Ran
             Fated::Alone => {
                 kept = left;
                 associations[j] = birth_stage::alone(j);
-                j += 1;
+                continue;
             }
             Fated::Begun => {
                 kept = left;
@@ -206,7 +201,6 @@ pub fn process_batch(mut t: PkTracker, batch: ObservationBatch3D) -> Ran
                 associations[j] = birth_stage::begun(j, id);
                 n += 1;
                 id += 1;
-                j += 1;
             }
             Fated::Refused(why) => {
                 return refuse(t, why);

@@ -309,8 +309,8 @@ stepped_by u r e =
     let l = turn u in
     (λ i. updated_or_not l.update_of-update.result (sym u.track_of-x.ensures i) (sym (took_is u) i)) ∙ e
 
-pub loop-k-preserved-then-is_confirmed_track : goal.loop-k-preserved-then-is_confirmed_track
-loop-k-preserved-then-is_confirmed_track c =
+pub loop-k-preserved : goal.loop-k-preserved
+loop-k-preserved c =
     let u = c.before.before.before.before.before.before.before in
     let l = c.before.before.before.before.before.before.before.before.before.before.before.before.before in
     let v = c.loop-k.invariant in
@@ -327,14 +327,14 @@ loop-k-preserved-then-is_confirmed_track c =
       rw c.track_to-in-Ok-done.ensures (correcting_more c.update_of-update.result (took_at l) _ _ _ no_pk_track v.6 x (omega (arith, v.1, v.10, c.loop-k-test.true))
           (stepped_by u _ (step_given c.update_where-step.ensures c.in-Ok-done.is))),
       rw (c.track_to-in-Ok-done.ensures, c.spot_of.ensures, front_more m k x few)
-          (spotted_more _ _ _ x v.7 (omega (arith, v.1, v.2, length-map (take k m) track_of, length-take-le k m (omega (arith, few)), c.loop-k-test.true)) (sym c.is_confirmed_track.ensures ∙ c.if-is_confirmed_track.true)),
+          (spotted_more _ _ _ x v.7 (omega (arith, v.1, v.2, length-map (take k m) track_of, length-take-le k m (omega (arith, few)), c.loop-k-test.true)) (sym c.is_confirmed_track.ensures ∙ c.if-not-is_confirmed_track.false)),
       v.8,
       v.9,
       v.10,
     )
 
-pub loop-k-preserved : goal.loop-k-preserved
-loop-k-preserved c =
+pub loop-k-preserved-then-not-is_confirmed_track : goal.loop-k-preserved-then-not-is_confirmed_track
+loop-k-preserved-then-not-is_confirmed_track c =
     let u = c.before.before.before.before.before.before in
     let l = c.before.before.before.before.before.before.before.before.before.before.before.before in
     let v = c.loop-k.invariant in
@@ -350,7 +350,7 @@ loop-k-preserved c =
       ap (λ (x : PkTracker). with_pk_tracks x (set m k c.track_to-in-Ok-done.result)) v.5,
       rw c.track_to-in-Ok-done.ensures (correcting_more c.update_of-update.result (took_at l) _ _ _ no_pk_track v.6 x (omega (arith, v.1, v.10, c.loop-k-test.true))
           (stepped_by u _ (step_given c.update_where-step.ensures c.in-Ok-done.is))),
-      rw (c.track_to-in-Ok-done.ensures, front_more m k x few) (spotted_same _ _ _ x v.7 (sym c.is_confirmed_track.ensures ∙ c.if-is_confirmed_track.false)),
+      rw (c.track_to-in-Ok-done.ensures, front_more m k x few) (spotted_same _ _ _ x v.7 (sym c.is_confirmed_track.ensures ∙ c.if-not-is_confirmed_track.true)),
       v.8,
       v.9,
       v.10,
@@ -634,9 +634,6 @@ offset_bounds-t-i c = omega (arith, c.loop-i-test.true, c.loop-i.invariant.0, c.
 pub bounds-t-i : goal.bounds-t-i
 bounds-t-i c = search (rules, c.loop-i-test.true, c.loop-i.invariant.0, c.loop-i.invariant.1, c.loop-i.invariant.2, c.loop-i.invariant.3, c.loop-i.invariant.4)
 
-pub overflow_add-i : goal.overflow_add-i
-overflow_add-i c = omega (arith, c.loop-i-test.true, c.loop-i.invariant.0, c.loop-i.invariant.1, c.loop-i.invariant.2, c.loop-i.invariant.3, c.loop-i.invariant.4)
-
 pub loop-i-smaller-in-Dropped : goal.loop-i-smaller-in-Dropped
 loop-i-smaller-in-Dropped c = omega (arith, c.loop-i-test.true, c.loop-i.invariant.0, c.loop-i.invariant.1, c.loop-i.invariant.2, c.loop-i.invariant.3, c.loop-i.invariant.4)
 
@@ -654,9 +651,6 @@ bounds-rows-n c = search (rules, c.loop-i-test.true, c.loop-i.invariant.0, c.loo
 
 pub overflow_add-n : goal.overflow_add-n
 overflow_add-n c = omega (arith, c.loop-i-test.true, c.loop-i.invariant.0, c.loop-i.invariant.1, c.loop-i.invariant.2, c.loop-i.invariant.3, c.loop-i.invariant.4)
-
-pub overflow_add-i-in-Kept : goal.overflow_add-i-in-Kept
-overflow_add-i-in-Kept c = omega (arith, c.loop-i-test.true, c.loop-i.invariant.0, c.loop-i.invariant.1, c.loop-i.invariant.2, c.loop-i.invariant.3, c.loop-i.invariant.4)
 
 pub loop-i-smaller : goal.loop-i-smaller
 loop-i-smaller c = omega (arith, c.loop-i-test.true, c.loop-i.invariant.0, c.loop-i.invariant.1, c.loop-i.invariant.2, c.loop-i.invariant.3, c.loop-i.invariant.4)
@@ -685,9 +679,6 @@ offset_bounds-t-k-in-Ok-done c = omega (arith, c.loop-k-test.true, c.loop-k.inva
 pub bounds-t-k-in-Ok-done : goal.bounds-t-k-in-Ok-done
 bounds-t-k-in-Ok-done c = search (rules, c.loop-k-test.true, c.loop-k.invariant.0, c.loop-k.invariant.1, c.loop-k.invariant.2, c.loop-k.invariant.3, c.loop-k.invariant.4, c.loop-k.invariant.8, c.loop-k.invariant.9)
 
-pub overflow_add-k : goal.overflow_add-k
-overflow_add-k c = omega (arith, c.loop-k-test.true, c.loop-k.invariant.0, c.loop-k.invariant.1, c.loop-k.invariant.2, c.loop-k.invariant.3, c.loop-k.invariant.4, c.loop-k.invariant.8, c.loop-k.invariant.9)
-
 pub offset_bounds-spots-near : goal.offset_bounds-spots-near
 offset_bounds-spots-near c = omega (arith, c.loop-k-test.true, c.loop-k.invariant.0, c.loop-k.invariant.1, c.loop-k.invariant.2, c.loop-k.invariant.3, c.loop-k.invariant.4, c.loop-k.invariant.8, c.loop-k.invariant.9)
 
@@ -697,11 +688,11 @@ bounds-spots-near c = search (rules, c.loop-k-test.true, c.loop-k.invariant.0, c
 pub overflow_add-near : goal.overflow_add-near
 overflow_add-near c = omega (arith, c.loop-k-test.true, c.loop-k.invariant.0, c.loop-k.invariant.1, c.loop-k.invariant.2, c.loop-k.invariant.3, c.loop-k.invariant.4, c.loop-k.invariant.8, c.loop-k.invariant.9)
 
-pub loop-k-smaller-then-is_confirmed_track : goal.loop-k-smaller-then-is_confirmed_track
-loop-k-smaller-then-is_confirmed_track c = omega (arith, c.loop-k-test.true, c.loop-k.invariant.0, c.loop-k.invariant.1, c.loop-k.invariant.2, c.loop-k.invariant.3, c.loop-k.invariant.4, c.loop-k.invariant.8, c.loop-k.invariant.9)
-
 pub loop-k-smaller : goal.loop-k-smaller
 loop-k-smaller c = omega (arith, c.loop-k-test.true, c.loop-k.invariant.0, c.loop-k.invariant.1, c.loop-k.invariant.2, c.loop-k.invariant.3, c.loop-k.invariant.4, c.loop-k.invariant.8, c.loop-k.invariant.9)
+
+pub loop-k-smaller-then-not-is_confirmed_track : goal.loop-k-smaller-then-not-is_confirmed_track
+loop-k-smaller-then-not-is_confirmed_track c = omega (arith, c.loop-k-test.true, c.loop-k.invariant.0, c.loop-k.invariant.1, c.loop-k.invariant.2, c.loop-k.invariant.3, c.loop-k.invariant.4, c.loop-k.invariant.8, c.loop-k.invariant.9)
 
 pub offset_bounds-pairs-j : goal.offset_bounds-pairs-j
 offset_bounds-pairs-j c = omega (arith, c.loop-j-test.true, c.loop-j.invariant.0, c.loop-j.invariant.1, c.loop-j.invariant.2, c.loop-j.invariant.3, c.loop-j.invariant.4, c.loop-j.invariant.5)
@@ -714,9 +705,6 @@ offset_bounds-associations-j c = omega (arith, c.loop-j-test.true, c.loop-j.inva
 
 pub bounds-associations-j : goal.bounds-associations-j
 bounds-associations-j c = search (rules, c.loop-j-test.true, c.loop-j.invariant.0, c.loop-j.invariant.1, c.loop-j.invariant.2, c.loop-j.invariant.3, c.loop-j.invariant.4, c.loop-j.invariant.5)
-
-pub overflow_add-j : goal.overflow_add-j
-overflow_add-j c = omega (arith, c.loop-j-test.true, c.loop-j.invariant.0, c.loop-j.invariant.1, c.loop-j.invariant.2, c.loop-j.invariant.3, c.loop-j.invariant.4, c.loop-j.invariant.5)
 
 pub loop-j-smaller-then-p : goal.loop-j-smaller-then-p
 loop-j-smaller-then-p c = omega (arith, c.loop-j-test.true, c.loop-j.invariant.0, c.loop-j.invariant.1, c.loop-j.invariant.2, c.loop-j.invariant.3, c.loop-j.invariant.4, c.loop-j.invariant.5)
@@ -732,9 +720,6 @@ offset_bounds-associations-j-in-Alone c = omega (arith, c.loop-j-test.true, c.lo
 
 pub bounds-associations-j-in-Alone : goal.bounds-associations-j-in-Alone
 bounds-associations-j-in-Alone c = search (rules, c.loop-j-test.true, c.loop-j.invariant.0, c.loop-j.invariant.1, c.loop-j.invariant.2, c.loop-j.invariant.3, c.loop-j.invariant.4, c.loop-j.invariant.5)
-
-pub overflow_add-j-in-Alone : goal.overflow_add-j-in-Alone
-overflow_add-j-in-Alone c = omega (arith, c.loop-j-test.true, c.loop-j.invariant.0, c.loop-j.invariant.1, c.loop-j.invariant.2, c.loop-j.invariant.3, c.loop-j.invariant.4, c.loop-j.invariant.5)
 
 pub loop-j-smaller-in-Alone : goal.loop-j-smaller-in-Alone
 loop-j-smaller-in-Alone c = omega (arith, c.loop-j-test.true, c.loop-j.invariant.0, c.loop-j.invariant.1, c.loop-j.invariant.2, c.loop-j.invariant.3, c.loop-j.invariant.4, c.loop-j.invariant.5)
@@ -756,9 +741,6 @@ overflow_add-n-in-Begun c = omega (arith, c.loop-j-test.true, c.loop-j.invariant
 
 pub overflow_add-id : goal.overflow_add-id
 overflow_add-id c = omega (arith, c.loop-j-test.true, c.loop-j.invariant.0, c.loop-j.invariant.1, c.loop-j.invariant.2, c.loop-j.invariant.3, c.loop-j.invariant.4, c.loop-j.invariant.5, (room c.before.before.before).0, (room c.before.before.before).1)
-
-pub overflow_add-j-in-Begun : goal.overflow_add-j-in-Begun
-overflow_add-j-in-Begun c = omega (arith, c.loop-j-test.true, c.loop-j.invariant.0, c.loop-j.invariant.1, c.loop-j.invariant.2, c.loop-j.invariant.3, c.loop-j.invariant.4, c.loop-j.invariant.5)
 
 pub loop-j-smaller : goal.loop-j-smaller
 loop-j-smaller c = omega (arith, c.loop-j-test.true, c.loop-j.invariant.0, c.loop-j.invariant.1, c.loop-j.invariant.2, c.loop-j.invariant.3, c.loop-j.invariant.4, c.loop-j.invariant.5)

@@ -1,6 +1,6 @@
 use mathlib.Core.Path.{◌≡◌}
 use mathlib.Core.List.{map}
-use Prim.Native.Nat.{◌≤◌, ◌-◌}
+use Prim.Native.Nat.{◌≤◌}
 use lib.ListN.{length, take}
 use Rattle.lists.proofs.Stepping.{Stepped}
 use Rattle.moving.proofs.Passing.{Passed}
@@ -22,9 +22,6 @@ invariant-loop-i l =
     × Passed (keeps_pk l.life l.density l.time) (clears_pk l.life l.density l.time) l.initial.t.tracks l.t.tracks l.i l.n
     × Noted l.t.tracks l.rows l.n
 
-abbrev pub decreases-loop-i : goal.decreases-loop-i
-decreases-loop-i l = l.all - l.i
-
 abbrev pub invariant-loop-k : goal.invariant-loop-k
 invariant-loop-k l =
     (l.k ≤ l.n) × (l.n ≤ 64) × (length l.t.tracks ≡ 64) × (length l.spots ≡ 64) × (l.near ≤ l.k) × (l.t ≡ with_pk_tracks l.initial.t l.t.tracks)
@@ -32,13 +29,7 @@ invariant-loop-k l =
     × Spotted (map track_of (take l.k l.t.tracks)) l.spots l.near
     × (length l.observations ≡ 64) × (length l.mates ≡ 64) × (length l.initial.t.tracks ≡ 64)
 
-abbrev pub decreases-loop-k : goal.decreases-loop-k
-decreases-loop-k l = l.n - l.k
-
 abbrev pub invariant-loop-j : goal.invariant-loop-j
 invariant-loop-j l =
     (l.j ≤ l.count) × (l.count ≤ 64) × (length l.t.tracks ≡ 64) × (length l.associations ≡ 64) × (length l.pairs ≡ 64) × (length l.observations ≡ 64) × (length l.initial.t.tracks ≡ 64) × (l.t ≡ with_pk_tracks l.initial.t l.t.tracks)
     × Bearing l.config l.sensor l.time (places_of l.places) (columns_from l.count l.pairs l.observations) (start_at l.initial.t l.initial.n l.initial.id l.time (list_of l.initial.kept)) l.initial.t.tracks l.t.tracks l.n l.id l.kept l.associations l.j
-
-abbrev pub decreases-loop-j : goal.decreases-loop-j
-decreases-loop-j l = l.count - l.j
