@@ -2,7 +2,7 @@
 use std::io;
 use wire::{Line, names};
 
-// The bytes that are loaded, and how many.
+// The bytes that are loaded, and how many. The costs of `tables` are kept alike: one struct for both would hold an array of a type parameter, for which the check asks more of each caller.
 #[derive(Drop)]
 pub struct Input {
     bytes: [u8; 16416],

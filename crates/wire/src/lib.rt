@@ -52,7 +52,7 @@ fn line_of(l: &[u8; 70]) -> Line {
     }
 }
 
-// The next line, if there is a whole one.
+// The next line, if there is a whole one. It has no clause, since none can say what a reader gives.
 pub fn read<R: Read>(reader: &mut R) -> io::Result<Option<Line>> {
     let mut l = [0; 70];
     match reader.read_exact(&mut l) {
