@@ -1,5 +1,5 @@
 -- The whole table at once: what the groups give is the definition's pairing.
-use Rattle.std.specs.Prelude.{None, Option}
+use Rattle.std.specs.Prelude.{None, Option, Result}
 use mathlib.Core.Path.{◌≡◌, refl, sym, ap, ◌∙◌}
 use mathlib.Core.Bool.{Bool, true, false, cond, ◌&&◌}
 use mathlib.Core.List.{List, [], ◌∷◌, ◌++◌, map}
@@ -18,7 +18,9 @@ use Rattle.kuhn_munkres.specs.Groups.{labels}
 use Rattle.kuhn_munkres.specs.Assignment.{rows_of, largest, largest_of, sentinel_of, groups, pairing, takers_reply}
 use Rattle.assignment.specs.Labelling.{row_or}
 use Rattle.groups.specs.Solvers.{own_reply}
-use Rattle.assignment.specs.Taking.{takers_of, reply_if, AllTaken}
+use Rattle.hungarian.specs.declared.RunError.{RunError}
+use Rattle.hungarian.specs.Ends.{reply_of_run}
+use Rattle.assignment.specs.Taking.{takers_of, AllTaken}
 
 largest_append : (m : Float) (a b : List Float) → largest m (a ++ b) ≡ largest (largest m a) b
 unfolding largest
@@ -39,10 +41,10 @@ none_takers k zero h = refl
 none_takers zero (suc m) h = absurd (omega arith)
 none_takers (suc k) (suc m) h = ap (λ (l : List (Option ℕ)). None ∷ l) (none_takers k m (omega arith))
 
-pub paired : (costs : List Float) (n m : ℕ) (far rowCost columnCost : Float) (ok : Bool) (before after : List ℕ) → m ≤ 64 → length costs ≡ n * m → before ≡ replicate 64 64 → far ≡ sentinel_of (largest (larger_of rowCost columnCost) costs)
-    → AllTaken costs n m far rowCost columnCost ok before after → reply_if ok (takers_of m after) ≡ pairing rowCost columnCost (rows_of n m costs) m
+pub paired : (costs : List Float) (n m : ℕ) (far rowCost columnCost : Float) (r : Result (Unit {0}) RunError) (before after : List ℕ) → m ≤ 64 → length costs ≡ n * m → before ≡ replicate 64 64 → far ≡ sentinel_of (largest (larger_of rowCost columnCost) costs)
+    → AllTaken costs n m far rowCost columnCost r before after → reply_of_run r (takers_of m after) ≡ pairing rowCost columnCost (rows_of n m costs) m
 unfolding pairing
-paired costs n m far rowCost columnCost ok before after hm size b f a =
+paired costs n m far rowCost columnCost r before after hm size b f a =
     a.is
     ∙ ap (λ (t : List (Option ℕ)). groups (own_reply far rowCost columnCost) (rows_of n m costs) (labels finite (rows_of n m costs) m) (up_from zero (rows_of n m costs)) t) (ap (takers_of m) b ∙ none_takers 64 m hm)
     ∙ ap (λ (x : Float). groups (own_reply x rowCost columnCost) (rows_of n m costs) (labels finite (rows_of n m costs) m) (up_from zero (rows_of n m costs)) (replicate m None)) (f ∙ ap sentinel_of (largest_rows n m (larger_of rowCost columnCost) costs size))

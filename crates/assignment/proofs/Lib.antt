@@ -1,4 +1,3 @@
-pub mod Places
 pub mod Forests
 pub mod Climbing
 pub mod Unions

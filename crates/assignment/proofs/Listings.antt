@@ -131,9 +131,6 @@ module _ (T : List (Option ℕ)) (n m : ℕ) where
       record { p = []; l = []; pairs_rest = ap (pairs_from T 0) z; free_rest = ap (free_rows T 0) z; rows_is = ea; columns_is = eb; free_is = ec; count = refl; left_is = refl; all = omega arith }
 
   module _ (i : ℕ) (a b c : List ℕ) (k left : ℕ) (hn : n ≤ 64) (h : i < n) (t : Listing i a b c k left) where
-    pub list_room : (k < 64) × (left < 64)
-    list_room = let x = t.all in let y = t.count in let z = t.left_is in (omega arith, omega arith)
-
     fuel : n - i ≡ suc (n - (i + 1))
     fuel = omega arith
 

@@ -11,7 +11,7 @@ use lib.ListN.{get_or, length, take, drop}
 use lib.Seq.{drop-cons, drop-length}
 use lib.Ieee.{Float}
 use lib.Ieee.Scale.{finite}
-use Rattle.std.specs.Prelude.{Result, Ok, Err, is_ok, Option}
+use Rattle.std.specs.Prelude.{Result, Ok, Err, Option}
 use Rattle.number.specs.Reply.{Reply, refused, given, and_then}
 use Rattle.kuhn_munkres.specs.Binary64.{float}
 use Rattle.kuhn_munkres.specs.Square.{Square, entry}
@@ -22,17 +22,16 @@ use Rattle.kuhn_munkres.specs.Groups.{Labels, labels, is_label}
 use Rattle.kuhn_munkres.specs.Assignment.{rows_of, in_one, taker_of, takers_in, solved, square_of, named, group_in, groups, same}
 use Rattle.kuhn_munkres.proofs.Kept.{of_found, rows_long}
 use Rattle.kuhn_munkres.proofs.Rows.{rows_count}
-use Rattle.hungarian.specs.Ends.{end_reply, run_reply, reply_of_run}
+use Rattle.hungarian.specs.Ends.{end_reply, run_reply, number_of, reply_of_run}
 use Rattle.hungarian.specs.Structs.{square_from}
 use Rattle.hungarian.specs.declared.RunError.{RunError}
-use Rattle.hungarian.specs.declared.RunError.TheVariants.{TooMany, Failed}
 use Rattle.hungarian.specs.declared.Shape.{Shape}
 use Rattle.hungarian.proofs.Replies.{checked}
 use Rattle.groups.specs.Picks.{ticks}
 use Rattle.groups.specs.Solvers.{own_reply}
 use Rattle.groups.proofs.Picking.{picked_long, picked_all, ticks_le}
 use Rattle.assignment.specs.Picks.{bears, group_row, group_table, GatheredIn}
-use Rattle.assignment.specs.Taking.{takers_of, reply_if, Call, Room, Taken, GroupTaken, AllTaken}
+use Rattle.assignment.specs.Taking.{takers_of, Call, Room, Taken, GroupTaken, AllTaken}
 use Rattle.assignment.proofs.Groupings.{table_is, unborne, no_column_lem, some_column, some_row, taken_is}
 
 -- ---- what the run ends with
@@ -47,25 +46,16 @@ ended (found s) p e = record { s = s; is = refl; rows_are = cc }
 ended stopped p e = let w : ◌≡◌ {A = ℕ} 0 1 = cc in absurd (omega arith)
 ended spent p e = let w : ◌≡◌ {A = ℕ} 0 1 = cc in absurd (omega arith)
 
-failed : (q : Square Float) (x : Search Float) → refused 10 ≡ end_reply x → takers_in q x ≡ refused 10
+failed : (q : Square Float) (x : Search Float) (k : ℕ) → refused k ≡ end_reply x → takers_in q x ≡ refused k
 unfolding takers_in end_reply
-failed q (found s) e = let w : ◌≡◌ {A = ℕ} 0 1 = cc in absurd (omega arith)
-failed q stopped e = refl
-failed q spent e = refl
-
--- the square is small, so that it is not refused for its size
-pub not_eleven : (x : Search Float) → refused 11 ≡ end_reply x → ⊥
-unfolding end_reply
-not_eleven (found s) e = let w : ◌≡◌ {A = ℕ} 0 1 = cc in omega arith
-not_eleven stopped e = let w : ◌≡◌ {A = ℕ} 11 10 = cc in omega arith
-not_eleven spent e = let w : ◌≡◌ {A = ℕ} 11 10 = cc in omega arith
+failed q (found s) k e = let w : ◌≡◌ {A = ℕ} 0 1 = cc in absurd (omega arith)
+failed q stopped k e = let w : k ≡ 10 = cc in ap refused (sym w)
+failed q spent k e = let w : k ≡ 10 = cc in ap refused (sym w)
 
 -- a run whose size is right ends as the steps do
 pub run_is : (costs : List Float) (q : Shape) → q.rows ≤ 64 → q.cols ≤ 64 → length costs ≡ q.rows * q.cols → (r : Result (Unit {0}) RunError) (p : List ℕ) → reply_of_run r p ≡ run_reply costs q
-    → reply_if (is_ok r) p ≡ end_reply (rows float (entry float (square_from costs q)) (q.rows + q.cols) (q.rows + q.cols))
-run_is costs q hr hc size (Ok u) p w = w ∙ checked costs q hr hc size
-run_is costs q hr hc size (Err TooMany) p w = absurd (not_eleven _ (w ∙ checked costs q hr hc size))
-run_is costs q hr hc size (Err Failed) p w = w ∙ checked costs q hr hc size
+    → reply_of_run r p ≡ end_reply (rows float (entry float (square_from costs q)) (q.rows + q.cols) (q.rows + q.cols))
+run_is costs q hr hc size r p w = w ∙ checked costs q hr hc size
 
 module _ (costs : List Float) (n m : ℕ) (rowNames columnNames : List ℕ) (far rowCost columnCost : Float) (C : Call costs n m rowNames columnNames) (g : ℕ) (hg : g < n) where
   abbrev R : List (List Float)
@@ -86,14 +76,14 @@ module _ (costs : List Float) (n m : ℕ) (rowNames columnNames : List ℕ) (far
   abbrev T : List (List Float)
   T = map (left_by cm) (left_by rm R)
 
-  nothing : (before : List ℕ) → length before ≡ 64 → any same cm ≡ false → GroupTaken costs n m far rowCost columnCost g true before before
+  nothing : (before : List ℕ) → length before ≡ 64 → any same cm ≡ false → GroupTaken costs n m far rowCost columnCost g (Ok tt) before before
   unfolding group_in
   nothing before l e = record { long = l; is = rw e }
 
-  pub group_unborne : (before : List ℕ) → length before ≡ 64 → (get_or rowNames g 0 ≡ g → ⊥) → GroupTaken costs n m far rowCost columnCost g true before before
+  pub group_unborne : (before : List ℕ) → length before ≡ 64 → (get_or rowNames g 0 ≡ g → ⊥) → GroupTaken costs n m far rowCost columnCost g (Ok tt) before before
   group_unborne before l f = nothing before l (unborne costs n m rowNames columnNames C.rows_few C.columns_few C.size C.named g hg f)
 
-  pub group_empty : (before : List ℕ) (c : ℕ) → length before ≡ 64 → c ≡ ticks (bears columnNames g) m → c ≡ 0 → GroupTaken costs n m far rowCost columnCost g true before before
+  pub group_empty : (before : List ℕ) (c : ℕ) → length before ≡ 64 → c ≡ ticks (bears columnNames g) m → c ≡ 0 → GroupTaken costs n m far rowCost columnCost g (Ok tt) before before
   group_empty before c l e z = nothing before l (no_column_lem costs n m rowNames columnNames C.rows_few C.columns_few C.size C.named g hg (sym e ∙ z))
 
   module _ (borne : get_or rowNames g 0 ≡ g) (c : ℕ) (c-is : c ≡ ticks (bears columnNames g) m) (c-some : c ≡ 0 → ⊥) (size : ℕ) (own : List Float) (members : List ℕ) (r : ℕ) (G : GatheredIn size costs n m rowNames columnNames g own members r) where
@@ -133,10 +123,10 @@ module _ (costs : List Float) (n m : ℕ) (rowNames columnNames : List ℕ) (far
     unfolding group_in
     group_is t = ap (λ (b : Bool). group_in dense b R (up_from zero R) rm cm t) any_column ∙ ap (λ (y : Reply (List (Option ℕ))). and_then y (λ o. given (spread cm (map (named (left_by rm (up_from zero R))) o) t))) dense_is
 
-    pub group_failed : (before : List ℕ) → length before ≡ 64 → refused 10 ≡ end_reply X → GroupTaken costs n m far rowCost columnCost g false before before
-    group_failed before l e = record { long = l; is = sym (group_is (takers_of m before) ∙ ap (λ (y : Reply (List (Option ℕ))). and_then y (λ o. given (spread cm (map (named (left_by rm (up_from zero R))) o) (takers_of m before)))) (failed Q X e)) }
+    pub group_failed : (before : List ℕ) (why : RunError) → length before ≡ 64 → refused (number_of why) ≡ end_reply X → GroupTaken costs n m far rowCost columnCost g (Err why) before before
+    group_failed before why l e = record { long = l; is = sym (group_is (takers_of m before) ∙ ap (λ (y : Reply (List (Option ℕ))). and_then y (λ o. given (spread cm (map (named (left_by rm (up_from zero R))) o) (takers_of m before)))) (failed Q X (number_of why) e)) }
 
-    pub group_solved : (before after : List ℕ) (p : List ℕ) → length before ≡ 64 → given p ≡ end_reply X → Taken columnNames g m p r members before after → GroupTaken costs n m far rowCost columnCost g true before after
+    pub group_solved : (before after : List ℕ) (p : List ℕ) → length before ≡ 64 → given p ≡ end_reply X → Taken columnNames g m p r members before after → GroupTaken costs n m far rowCost columnCost g (Ok tt) before after
     unfolding takers_in
     group_solved before after p l e t =
         let d = ended X p e in
@@ -185,13 +175,13 @@ module _ (costs : List Float) (n m : ℕ) (far rowCost columnCost : Float) where
   next_groups g t h = ap (λ (l : List (List Float)). groups (own_reply far rowCost columnCost) R' s' (up_from g l) t) (drop-cons R' g [] (rw (rows_count n m costs) h))
 
   module _ (g : ℕ) (before now after : List ℕ) (h : g < n) (w : Going g before now) where
-    pub going_next : GroupTaken costs n m far rowCost columnCost g true now after → Going (g + 1) before after
+    pub going_next : GroupTaken costs n m far rowCost columnCost g (Ok tt) now after → Going (g + 1) before after
     going_next q = record { long = q.long; rest = rw (add-one g) (sym (next_groups g (takers_of m now) h ∙ ap (λ (y : Reply (List (Option ℕ))). and_then y (groups (own_reply far rowCost columnCost) R' s' (up_from (suc g) (drop (suc g) R')))) (sym q.is)) ∙ w.rest) }
 
-    pub going_stops : GroupTaken costs n m far rowCost columnCost g false now after → AllTaken costs n m far rowCost columnCost false before after
-    going_stops q = record { long = q.long; is = sym (next_groups g (takers_of m now) h ∙ ap (λ (y : Reply (List (Option ℕ))). and_then y (groups (own_reply far rowCost columnCost) R' s' (up_from (suc g) (drop (suc g) R')))) (sym q.is)) ∙ w.rest }
+    pub going_stops : (why : RunError) → GroupTaken costs n m far rowCost columnCost g (Err why) now after → AllTaken costs n m far rowCost columnCost (Err why) before after
+    going_stops why q = record { long = q.long; is = sym (next_groups g (takers_of m now) h ∙ ap (λ (y : Reply (List (Option ℕ))). and_then y (groups (own_reply far rowCost columnCost) R' s' (up_from (suc g) (drop (suc g) R')))) (sym q.is)) ∙ w.rest }
 
-  pub going_done : (before after : List ℕ) → Going n before after → AllTaken costs n m far rowCost columnCost true before after
+  pub going_done : (before after : List ℕ) → Going n before after → AllTaken costs n m far rowCost columnCost (Ok tt) before after
   unfolding groups up_from
   going_done before after w =
       record { long = w.long; is = sym (ap (λ (l : List (List Float)). groups (own_reply far rowCost columnCost) R' s' (up_from n l) (takers_of m after)) (ap (λ (k : ℕ). drop k R') (sym (rows_count n m costs)) ∙ drop-length R')) ∙ w.rest }

@@ -1,9 +1,10 @@
 -- The takers of columns as the code holds them: numbers, with 64 for no row.
-use Rattle.std.specs.Prelude.{◌≡◌, Bool, true, false, cond, List, map, ℕ, zero, suc, ◌+◌, ◌*◌, ◌≤◌, ◌<◌, get_or, length, take, eqb, ltb, Float, Option}
+use Rattle.std.specs.Prelude.{◌≡◌, cond, List, map, ℕ, zero, suc, ◌+◌, ◌*◌, ◌≤◌, ◌<◌, get_or, length, take, eqb, ltb, Float, Option, Result}
 use Rattle.std.specs.Float.Ieee.Scale.{finite}
-use Rattle.number.specs.Reply.{Reply, refused, given}
 use Rattle.lists.specs.First.{any}
 use Rattle.lists.specs.Masks.{up_from}
+use Rattle.hungarian.specs.declared.RunError.{RunError}
+use Rattle.hungarian.specs.Ends.{reply_of_run}
 use Rattle.kuhn_munkres.specs.Groups.{labels, is_label}
 use Rattle.kuhn_munkres.specs.Assignment.{rows_of, group_in, groups, same}
 use Rattle.groups.specs.Picks.{ticks}
@@ -25,11 +26,6 @@ pub record Taken (names : List ℕ) (g m : ℕ) (p : List ℕ) (r : ℕ) (member
   pub long : length after ≡ 64
   pub at : (j : ℕ) → j < m → get_or after j 0 ≡ cond (bears names g j) (taker_number members r (get_or p (ticks (bears names g) j + 1) 0)) (get_or before j 0)
 
--- 01, Assignment (refusals): "10 .. a step not finite"
-abbrev pub reply_if : {A : Type 0} → Bool → A → Reply A
-reply_if true a = given a
-reply_if false a = refused 10
-
 -- the call's table and its groups' names
 pub record Call (costs : List Float) (n m : ℕ) (rowNames columnNames : List ℕ) : Type 0 where
   pub rows_few : n ≤ 64
@@ -43,11 +39,11 @@ pub record Room (n m : ℕ) (own : List Float) : Type 0 where
   pub some : 0 < length own
   pub few : length own ≤ 4096
 
-pub record GroupTaken (costs : List Float) (n m : ℕ) (far rowCost columnCost : Float) (g : ℕ) (ok : Bool) (before after : List ℕ) : Type 0 where
+pub record GroupTaken (costs : List Float) (n m : ℕ) (far rowCost columnCost : Float) (g : ℕ) (r : Result (Unit {0}) RunError) (before after : List ℕ) : Type 0 where
   pub long : length after ≡ 64
   pub is : (let R = rows_of n m costs in let s = labels finite R m in let cm = map (is_label g) s.of_columns in
-      reply_if ok (takers_of m after) ≡ group_in (own_reply far rowCost columnCost) (any same cm) R (up_from zero R) (map (eqb g) s.of_rows) cm (takers_of m before))
+      reply_of_run r (takers_of m after) ≡ group_in (own_reply far rowCost columnCost) (any same cm) R (up_from zero R) (map (eqb g) s.of_rows) cm (takers_of m before))
 
-pub record AllTaken (costs : List Float) (n m : ℕ) (far rowCost columnCost : Float) (ok : Bool) (before after : List ℕ) : Type 0 where
+pub record AllTaken (costs : List Float) (n m : ℕ) (far rowCost columnCost : Float) (r : Result (Unit {0}) RunError) (before after : List ℕ) : Type 0 where
   pub long : length after ≡ 64
-  pub is : (let R = rows_of n m costs in reply_if ok (takers_of m after) ≡ groups (own_reply far rowCost columnCost) R (labels finite R m) (up_from zero R) (takers_of m before))
+  pub is : (let R = rows_of n m costs in reply_of_run r (takers_of m after) ≡ groups (own_reply far rowCost columnCost) R (labels finite R m) (up_from zero R) (takers_of m before))

@@ -11,7 +11,10 @@ ghost use Rattle.std.specs.Prelude.{◌≡◌, length, replicate, ◌≤◌};
 ghost use Rattle.kuhn_munkres.specs.Assignment.{takers_reply, pairs_of, assignment_reply};
 ghost use Rattle.assignment.specs.Listing.{assignment_of, AssignmentAnswer};
 ghost use Rattle.assignment.specs.Taking.{takers_of};
-ghost use Rattle.assignment.specs.Replies.{reply_of};
+ghost use Rattle.assignment.specs.Replies.{number_of, reply_of};
+ghost use Rattle.hungarian.specs.Ends as run;
+
+use hungarian::RunError;
 
 // Why a call is declined: too many rows or columns, an unmatched cost that is not finite, a table of another size or a step that is not finite.
 #[derive(Clone, Copy, PartialEq, Eq)]
@@ -19,6 +22,17 @@ pub enum AssignmentError {
     TooMany,
     NonFinite,
     Failed,
+}
+
+impl From<RunError> for AssignmentError {
+    ghost from_gives = { λ x e. number_of e ≡ run.number_of x };
+
+    fn from(why: RunError) -> AssignmentError {
+        match why {
+            RunError::TooMany => AssignmentError::TooMany,
+            RunError::Failed => AssignmentError::Failed,
+        }
+    }
 }
 
 // Pairs by ascending row, and the rows and columns that are left, ascending: each list in front of its array, zeros after it.
@@ -61,11 +75,8 @@ pub fn pair_columns(
     if costs.len() != rows * columns {
         return Err(AssignmentError::Failed);
     }
-    if takers::pair_table(costs, rows, columns, row_cost, column_cost, takers) {
-        Ok(())
-    } else {
-        Err(AssignmentError::Failed)
-    }
+    takers::pair_table(costs, rows, columns, row_cost, column_cost, takers)?;
+    Ok(())
 }
 
 // The pairs and lists of the takers.

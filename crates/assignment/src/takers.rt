@@ -1,5 +1,6 @@
 // The row that takes each column, group after group.
 // Seen by this crate alone: `pair_columns` refuses tables of other sizes before it comes here.
+// The table, its counts and the names stay parameters of their own, as in crate hungarian: `Call` is what is known of them together.
 ghost use Rattle.std.specs.Prelude.{◌≡◌, ◌+◌, ◌*◌, ◌≤◌, ◌<◌, T, length, take, replicate};
 ghost use Rattle.std.specs.Float.{binary64};
 ghost use Rattle.std.specs.Float.Ieee.{fits};
@@ -9,8 +10,10 @@ ghost use Rattle.kuhn_munkres.specs.Steps.{rows};
 ghost use Rattle.kuhn_munkres.specs.Assignment.{rows_of, pairing};
 ghost use Rattle.kuhn_munkres.specs.Single.{is_single, single_rows};
 ghost use Rattle.hungarian.specs.Structs.{square_from};
-ghost use Rattle.hungarian.specs.Ends.{end_reply};
-ghost use Rattle.assignment.specs.Taking.{taker_number, takers_of, reply_if, Taken, Call, Room, GroupTaken, AllTaken};
+ghost use Rattle.hungarian.specs.Ends.{end_reply, reply_of_run};
+ghost use Rattle.assignment.specs.Taking.{taker_number, takers_of, Taken, Call, Room, GroupTaken, AllTaken};
+
+use hungarian::RunError;
 
 // The row of the whole table for the row t of a group's square, which has r rows of its own; rows of a square count from 1. 64 for a dummy.
 fn taker(t: usize, r: usize, members: &[usize; 64]) -> usize
@@ -78,21 +81,21 @@ fn lay_single(less: bool, p: &mut [usize; 129])
     *p = q;
 }
 
-// The steps on the table in the front of `own`, which has one place at least; the rows of the columns into p. False for a step that is not finite.
-fn solve_front(own: &[f64], shape: hungarian::Shape, p: &mut [usize; 129]) -> bool
+// The steps on the table in the front of `own`, which has one place at least; the rows of the columns into p.
+fn solve_front(own: &[f64], shape: hungarian::Shape, p: &mut [usize; 129]) -> Result<(), RunError>
     requires { (shape.rows ≤ 64) × (shape.cols ≤ 64) × (shape.rows * shape.cols ≤ length own.now) × (0 < length own.now) }
-    ensures { reply_if result p.new ≡ end_reply (rows float (entry float (square_from (take (shape.rows * shape.cols) own.now) shape)) (shape.rows + shape.cols) (shape.rows + shape.cols)) }
+    ensures { reply_of_run result p.new ≡ end_reply (rows float (entry float (square_from (take (shape.rows * shape.cols) own.now) shape)) (shape.rows + shape.cols) (shape.rows + shape.cols)) }
 {
     let cost = own[0];
     if is_single(cost, shape.rows, shape.cols, shape.row, shape.col) {
         lay_single(shape.row < cost, p);
-        return true;
+        return Ok(());
     }
     let end = shape.rows * shape.cols;
-    hungarian::solve(&own[..end], shape, p).is_ok()
+    hungarian::solve(&own[..end], shape, p)
 }
 
-// Group g, if there is one: its own table is solved, and its columns take their rows. False for a step that is not finite.
+// Group g, if there is one: its own table is solved, and its columns take their rows.
 fn solve_group(
     costs: &[f64],
     rows: usize,
@@ -105,16 +108,16 @@ fn solve_group(
     members: &mut [usize; 64],
     p: &mut [usize; 129],
     takers: &mut [usize; 64],
-) -> bool
+) -> Result<(), RunError>
     requires { Call costs.now rows columns row_names.now column_names.now × (g < rows) × Room rows columns own.old × (length members.old ≡ 64) × (length takers.old ≡ 64) }
     ensures { (length own.new ≡ length own.old) × (length members.new ≡ 64) × GroupTaken costs.now rows columns prices.far prices.row prices.column g result takers.old takers.new }
 {
     if row_names[g] != g {
-        return true;
+        return Ok(());
     }
     let c = crate::table::count_named(column_names, columns, g);
     if c == 0 {
-        return true;
+        return Ok(());
     }
     let r = crate::table::gather_in(
         costs,
@@ -133,14 +136,12 @@ fn solve_group(
         row: prices.row,
         col: prices.column,
     };
-    if !solve_front(own, shape, p) {
-        return false;
-    }
+    solve_front(own, shape, p)?;
     take_columns(column_names, columns, g, p, r, members, takers);
-    true
+    Ok(())
 }
 
-// All groups, each named by its last row; `own` is for the table of one. False for a step that is not finite.
+// All groups, each named by its last row; `own` is for the table of one.
 fn solve_groups_in(
     costs: &[f64],
     rows: usize,
@@ -150,14 +151,14 @@ fn solve_groups_in(
     prices: Prices,
     own: &mut [f64],
     takers: &mut [usize; 64],
-) -> bool
+) -> Result<(), RunError>
     requires { Call costs.now rows columns row_names.now column_names.now × Room rows columns own.old × (length takers.old ≡ 64) }
     ensures { AllTaken costs.now rows columns prices.far prices.row prices.column result takers.old takers.new }
 {
     let mut members = [0usize; 64];
     let mut p = [0usize; 129];
     for g in 0..rows {
-        if !solve_group(
+        solve_group(
             costs,
             rows,
             columns,
@@ -169,11 +170,9 @@ fn solve_groups_in(
             &mut members,
             &mut p,
             takers,
-        ) {
-            return false;
-        }
+        )?;
     }
-    true
+    Ok(())
 }
 
 // The same, with an array of its own: a small one for a small table, since filling the large one takes longer than the rest of the call.
@@ -185,7 +184,7 @@ fn solve_groups(
     column_names: &[usize; 64],
     prices: Prices,
     takers: &mut [usize; 64],
-) -> bool
+) -> Result<(), RunError>
     requires { Call costs.now rows columns row_names.now column_names.now × (length takers.old ≡ 64) }
     ensures { AllTaken costs.now rows columns prices.far prices.row prices.column result takers.old takers.new }
 {
@@ -215,7 +214,7 @@ fn solve_groups(
     )
 }
 
-// The row that takes each column of a table, into `takers`, which has 64 everywhere at first. False for a step that is not finite.
+// The row that takes each column of a table, into `takers`, which has 64 everywhere at first.
 pub fn pair_table(
     costs: &[f64],
     rows: usize,
@@ -223,9 +222,9 @@ pub fn pair_table(
     row_cost: f64,
     column_cost: f64,
     takers: &mut [usize; 64],
-) -> bool
+) -> Result<(), RunError>
     requires { (rows ≤ 64) × (columns ≤ 64) × (length costs.now ≡ rows * columns) × (takers.old ≡ replicate 64 64) }
-    ensures { (reply_if result (takers_of columns takers.new) ≡ pairing row_cost column_cost (rows_of rows columns costs.now) columns) × (length takers.new ≡ 64) }
+    ensures { (reply_of_run result (takers_of columns takers.new) ≡ pairing row_cost column_cost (rows_of rows columns costs.now) columns) × (length takers.new ≡ 64) }
 {
     let names = crate::joining::named_groups(costs, rows, columns);
     let row_names = names.of_rows;

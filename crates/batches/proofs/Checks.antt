@@ -1,7 +1,7 @@
 -- What the tests on the way of a batch's check say of its definition, and what a pass over its detections has found. Assumes nothing.
 use Rattle.std.specs.Prelude.{None, Option}
 use mathlib.Core.Path.{◌≡◌, refl, sym, ap, ◌∙◌, subst}
-use mathlib.Core.Bool.{Bool, true, false, not}
+use mathlib.Core.Bool.{Bool, true, false}
 use lib.IntN.{ℤ}
 use borrow.Author.Tests.{le-leb, lt-leb}
 use mathlib.Core.List.{List, [], ◌∷◌, ◌++◌}
@@ -77,14 +77,6 @@ module _ (l : List Detection) (None : Detection) where
       split (x ∷ l) (suc a) (suc b) h = ap (λ (y : List Detection). x ∷ y) (split l a b (omega arith))
 
 -- ---- the tests in their order
-pub not_held : (b : Bool) → not b ≡ true → b ≡ false
-not_held true e = sym e
-not_held false e = refl
-
-pub held : (b : Bool) → not b ≡ false → b ≡ true
-held true e = refl
-held false e = sym e
-
 module _ (frame : FrameName) (last : Option ℤ) (l : List SensorSequence) (b : ObservationBatch3D) where
   abbrev reply : Reply (Unit {0})
   reply = batch_reply frame last l b

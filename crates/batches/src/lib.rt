@@ -7,6 +7,7 @@ ghost use Rattle.batches.specs.Check.{detections_reply, is_before, is_repeated, 
 
 use detections::Detection;
 use settings::frame::FrameName;
+use tables::sequences::Sequences;
 use types::batch::ObservationBatch3D;
 use types::refusal::Refusal;
 use types::tracker::SensorSequence;
@@ -14,7 +15,7 @@ use types::{MAX_OBSERVATIONS, MAX_SEQUENCES};
 
 // Whether a time is before the last one that was seen.
 pub fn is_before(last: Option<i64>, time: i64) -> bool
-    ensures { result ≡ is_before (last) time }
+    ensures { result ≡ is_before last time }
 {
     match last {
         None => false,
@@ -24,7 +25,7 @@ pub fn is_before(last: Option<i64>, time: i64) -> bool
 
 // Whether a sequence number is not above the sensor's last.
 fn is_repeated(last: Option<u64>, sequence: u64) -> bool
-    ensures { result ≡ is_repeated (last) sequence }
+    ensures { result ≡ is_repeated last sequence }
 {
     match last {
         None => false,
@@ -38,12 +39,7 @@ fn validate_detections(observations: [Detection; MAX_OBSERVATIONS], n: usize) ->
     ensures { reply_of result ≡ detections_reply (take n observations) }
 {
     for i in 0..n {
-        match detections::validate_detection(observations[i]) {
-            Ok(()) => {}
-            Err(why) => {
-                return Err(types::refusal::of_matrix(why));
-            }
-        }
+        detections::validate_detection(observations[i])?;
     }
     Ok(())
 }
@@ -56,12 +52,16 @@ pub fn validate_batch(
     sequence_count: usize,
     batch: ObservationBatch3D,
 ) -> Result<(), Refusal>
-    ensures { reply_of result ≡ batch_reply frame (last_time) (take sequence_count sequences) batch }
+    ensures { reply_of result ≡ batch_reply frame last_time (take sequence_count sequences) batch }
 {
     let sensor = batch.sensor_id;
     let count = batch.count;
     let declared = batch.frame_id;
     let observations = batch.observations;
+    let table = Sequences {
+        entries: sequences,
+        count: sequence_count,
+    };
     if MAX_OBSERVATIONS < count {
         return Err(Refusal::TooMany);
     }
@@ -71,20 +71,13 @@ pub fn validate_batch(
     if is_before(last_time, batch.timestamp) {
         return Err(Refusal::TimestampWentBackwards);
     }
-    if is_repeated(
-        tables::sequences::last_sequence(sequences, sequence_count, sensor),
-        batch.sequence,
-    ) {
+    if is_repeated(table.last(sensor), batch.sequence) {
         return Err(Refusal::DuplicateBatch);
     }
-    match validate_detections(observations, count) {
-        Err(why) => Err(why),
-        Ok(()) => {
-            if tables::sequences::has_room_for(sequences, sequence_count, sensor) {
-                Ok(())
-            } else {
-                Err(Refusal::TooMany)
-            }
-        }
+    validate_detections(observations, count)?;
+    if table.has_room_for(sensor) {
+        Ok(())
+    } else {
+        Err(Refusal::TooMany)
     }
 }

@@ -1,4 +1,5 @@
 pub mod Nearing
+pub mod Listing
 pub mod Aging
 pub mod Seeing
 pub mod Copying

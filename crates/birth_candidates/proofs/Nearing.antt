@@ -1,7 +1,7 @@
 -- Candidates by themselves: whether one stays, and the nearest, one candidate after another. Assumes nothing.
 use Rattle.std.specs.Prelude.{None, Option, Some}
-use mathlib.Core.Path.{◌≡◌, sym, ap, ◌∙◌}
-use mathlib.Core.Bool.{Bool, true, false, true≢false}
+use mathlib.Core.Path.{◌≡◌, ap}
+use mathlib.Core.Bool.{true, false}
 use mathlib.Core.List.{List, [], ◌∷◌, ◌++◌}
 use Prim.Native.Nat.{ℕ, suc, ◌+◌, ◌<◌}
 use native.Mathlib.Omega.{arith}
@@ -11,7 +11,7 @@ use lib.Signed.{le_z}
 use lib.Ieee.{Float, lt}
 use lib.ListN.{length, take, get_or}
 use lib.Seq.{take-suc, length-take-le}
-use Rattle.number.specs.Reply.{refused, given}
+use Rattle.number.specs.Reply.{given, and_then, reply_or}
 use Rattle.number.specs.Time.{duration_reply, same_time}
 use Rattle.detections.specs.Births.{distance_of}
 use Rattle.detections.specs.declared.Detection.{Detection}
@@ -22,13 +22,9 @@ use Rattle.birth_candidates.specs.Candidates.{near_of}
 
 -- ---- whether one stays
 
-pub stays_by : (timeout now : ℤ) (x : BirthCandidate) (age : ℤ) (b : Bool) → given age ≡ duration_reply now x.last_seen → le_z age timeout ≡ b → given b ≡ stays timeout now x
+pub stays_by : (timeout now : ℤ) (x : BirthCandidate) (o : Option ℤ) → reply_or 8 o ≡ duration_reply now x.last_seen → and_then (reply_or 8 o) (λ age. given (le_z age timeout)) ≡ stays timeout now x
 unfolding stays
-stays_by timeout now x age b e h = rw (← e, h)
-
-pub stays_not : (timeout now : ℤ) (x : BirthCandidate) → refused 8 ≡ duration_reply now x.last_seen → refused 8 ≡ stays timeout now x
-unfolding stays
-stays_not timeout now x e = rw (← e)
+stays_by timeout now x o e = ap (λ r. and_then r (λ age. given (le_z age timeout))) e
 
 -- ---- the nearer of two
 
@@ -36,29 +32,34 @@ module _ (radius : Float) (now : ℤ) (d : Detection) (i : ℕ) (x : BirthCandid
   abbrev far : Float
   far = distance_of x.position d.position
 
-  pub seen_now : (best : Near) (o : Option Nearest) → same_time x.last_seen now ≡ true → best ≡ near_of radius o → best ≡ near_of radius (considered radius now d i x o)
+  pub seen_now : (best : Option Near) (o : Option Nearest) → same_time x.last_seen now ≡ true → best ≡ near_of o → best ≡ near_of (considered radius now d i x o)
   unfolding considered within
   seen_now best o e q = rw e q
 
-  pub too_far : (best : Near) (o : Option Nearest) → same_time x.last_seen now ≡ false → lt far radius ≡ false → best ≡ near_of radius o → best ≡ near_of radius (considered radius now d i x o)
+  pub too_far : (best : Option Near) (o : Option Nearest) → same_time x.last_seen now ≡ false → lt far radius ≡ false → best ≡ near_of o → best ≡ near_of (considered radius now d i x o)
   unfolding considered within
   too_far best o e f q = rw (e, f) q
 
-  pub farther : (best : Near) (o : Option Nearest) → same_time x.last_seen now ≡ false → lt far radius ≡ true → lt far best.distance ≡ false → best ≡ near_of radius o
-      → best ≡ near_of radius (considered radius now d i x o)
+  pub farther : (best : Near) (o : Option Nearest) → same_time x.last_seen now ≡ false → lt far radius ≡ true → lt far best.distance ≡ false → Some best ≡ near_of o
+      → Some best ≡ near_of (considered radius now d i x o)
   unfolding considered within better
-  farther best None e f g q = absurd (true≢false (sym f ∙ ap (λ (n : Near). lt far n.distance) (sym q) ∙ g))
+  farther best None e f g q = absurd (let z : ◌≡◌ {A = ℕ} 0 1 = cc in omega arith)
   farther best (Some b) e f g q =
-      let h : lt far b.distance ≡ false = ap (λ (n : Near). lt far n.distance) (sym q) ∙ g in
-      rw (e, f, h) q
+      let z : best.distance ≡ b.distance = cc in
+      rw (e, f, rw z at g) q
 
-  pub closer : (best : Near) (o : Option Nearest) → same_time x.last_seen now ≡ false → lt far radius ≡ true → lt far best.distance ≡ true → best ≡ near_of radius o
-      → record { at = i; distance = far } ≡ near_of radius (considered radius now d i x o)
+  pub closer : (best : Near) (o : Option Nearest) → same_time x.last_seen now ≡ false → lt far radius ≡ true → lt far best.distance ≡ true → Some best ≡ near_of o
+      → Some (record { at = i; distance = far }) ≡ near_of (considered radius now d i x o)
   unfolding considered within better
-  closer best None e f g q = rw (e, f)
+  closer best None e f g q = absurd (let z : ◌≡◌ {A = ℕ} 0 1 = cc in omega arith)
   closer best (Some b) e f g q =
-      let h : lt far b.distance ≡ true = ap (λ (n : Near). lt far n.distance) (sym q) ∙ g in
-      rw (e, f, h)
+      let z : best.distance ≡ b.distance = cc in
+      rw (e, f, rw z at g)
+
+  pub first : (o : Option Nearest) → same_time x.last_seen now ≡ false → lt far radius ≡ true → None ≡ near_of o → Some (record { at = i; distance = far }) ≡ near_of (considered radius now d i x o)
+  unfolding considered within better
+  first None e f q = rw (e, f)
+  first (Some b) e f q = absurd (let z : ◌≡◌ {A = ℕ} 0 1 = cc in omega arith)
 
 -- ---- one after another
 

@@ -1,58 +1,53 @@
 -- One detection that no track took: what its parts answer together. Assumes nothing.
-use Rattle.std.specs.Prelude.{Err, Ok, Result, None, Option, Some}
-use mathlib.Core.Path.{◌≡◌, refl, sym, ap, ◌∙◌, subst}
+use Rattle.std.specs.Prelude.{None, Option, Some}
+use mathlib.Core.Path.{◌≡◌, refl, sym, ap, ◌∙◌}
 use mathlib.Core.Bool.{Bool, true, false}
+use mathlib.Core.List.{List}
 use Prim.Native.Nat.{ℕ, ◌≤◌, ◌<◌, ◌^◌, ◌-◌}
 use native.Mathlib.Omega.{arith}
 use borrow.Author.Tests.{lt-ltb, le-ltb}
 use lib.IntN.{ℤ}
 use Rattle.number.specs.Reply.{Reply, refused, given, and_then}
+use Rattle.number.proofs.Replies.{given_same, never_given}
 use Rattle.settings.specs.declared.Cartesian3DTrackerConfig.{Cartesian3DTrackerConfig}
 use Rattle.detections.specs.declared.Detection.{Detection}
-use Rattle.types.specs.declared.refusal.Refusal.{Refusal}
-use Rattle.types.specs.declared.refusal.Refusal.TheVariants.{TooMany}
 use Rattle.types.specs.declared.track.Track3D.{Track3D}
-use Rattle.types.specs.Fresh.{blank_track}
-use Rattle.types.specs.Refusals.{number_of, answered}
-use Rattle.calls.specs.Births.{Sighting, sighted_for, sighted, born_filter}
+use Rattle.types.specs.declared.tracker.BirthCandidate.{BirthCandidate}
+use Rattle.calls.specs.Births.{Sighting, sighted_for, sighted}
 use Rattle.birth_candidates.specs.declared.Candidates.{Candidates}
 use Rattle.birth_candidates.specs.declared.Sighted.{Sighted}
-use Rattle.birth_candidates.specs.declared.Sighting.TheVariants.{Waits, Begins, Full}
 use Rattle.spawning.specs.declared.ruling.Ruling.TheVariants as ruling
 use Rattle.spawning.specs.declared.spawn.Begin.{Begin}
-use Rattle.spawning.specs.declared.spawn.Spawned.{Spawned}
-use Rattle.birth_stage.specs.declared.one.Fated.{Fated}
-use Rattle.birth_stage.specs.declared.one.Fated.TheVariants as fated
 use Rattle.birth_stage.specs.declared.one.Considered.{Considered}
-use Rattle.birth_candidates.specs.Candidates.{list_of, over, sighting_of, Sights}
+use Rattle.birth_candidates.specs.Candidates.{list_of, over, seen_in, after_sighting}
+use Rattle.birth_candidates.proofs.Listing.{listed}
 use Rattle.spawning.specs.Ruling.{ruling_of}
-use Rattle.spawning.specs.Spawn.{moving_in, track_from, Spawns}
-use Rattle.birth_stage.specs.One.{decided_of, begin_with, tried_of, track_in, Tries, One, one_with, one_of, fated_of, Considers}
-use Rattle.birth_candidates.proofs.Seeing.{seen}
+use Rattle.spawning.specs.Spawn.{made_of}
+use Rattle.birth_stage.specs.One.{decided_of, begin_with, tried_of, One, one_with, one_of, after_one}
 
 -- ---- by the ruling
 
 module _ (config : Cartesian3DTrackerConfig) (now : ℤ) (d : Detection) (c : Candidates) where
-  abbrev Decides : Sighted → Bool → Bool → Type 0
-  Decides r low near = Sights c r (decided_of config now low near d (list_of c))
+  abbrev decided : Bool → Bool → Reply Sighted
+  decided low near = after_sighting c (decided_of config now low near d (list_of c))
 
   passed_by : (low near : Bool) (o : Option ℕ) (u : Candidates) → config.birth_persistence ≡ o → ruling.Passed ≡ ruling_of low near o → u ≡ over c (list_of c)
-      → Decides (record { sighting = Waits; candidates = u }) low near
+      → given (record { begins = None; candidates = u }) ≡ decided low near
   unfolding ruling_of decided_of sighted sighted_for
-  passed_by true near o u p e q = seen c Waits u (record { candidates = list_of c; enough = None }) q refl
+  passed_by true near o u p e q = rw q
   passed_by false false o u p e q = absurd (let z : ◌≡◌ {A = ℕ} 0 1 = cc in omega arith)
-  passed_by false true None u p e q = rw p (seen c Waits u (record { candidates = list_of c; enough = None }) q refl)
+  passed_by false true None u p e q = rw (p, q)
   passed_by false true (Some k) u p e q = absurd (let z : ◌≡◌ {A = ℕ} 0 1 = cc in omega arith)
 
-  begins_by : (low near : Bool) (o : Option ℕ) (u : Candidates) → ruling.Begins ≡ ruling_of low near o → u ≡ over c (list_of c) → Decides (record { sighting = Begins 1; candidates = u }) low near
+  begins_by : (low near : Bool) (o : Option ℕ) (u : Candidates) → ruling.Begins ≡ ruling_of low near o → u ≡ over c (list_of c) → given (record { begins = Some 1; candidates = u }) ≡ decided low near
   unfolding ruling_of decided_of
   begins_by true near o u e q = absurd (let z : ◌≡◌ {A = ℕ} 0 1 = cc in omega arith)
-  begins_by false false o u e q = seen c (Begins 1) u (record { candidates = list_of c; enough = Some 1 }) q refl
+  begins_by false false o u e q = rw q
   begins_by false true None u e q = absurd (let z : ◌≡◌ {A = ℕ} 0 1 = cc in omega arith)
   begins_by false true (Some k) u e q = absurd (let z : ◌≡◌ {A = ℕ} 0 1 = cc in omega arith)
 
-  counted_by : (low near : Bool) (o : Option ℕ) (k : ℕ) (r : Sighted) → config.birth_persistence ≡ o → ruling.Counted k ≡ ruling_of low near o
-      → Sights c r (sighted_for config.birth_candidate_radius_m now d (Some k) (list_of c)) → Decides r low near
+  counted_by : (low near : Bool) (o : Option ℕ) (k : ℕ) (r : Reply Sighted) → config.birth_persistence ≡ o → ruling.Counted k ≡ ruling_of low near o
+      → r ≡ after_sighting c (sighted_for config.birth_candidate_radius_m now d (Some k) (list_of c)) → r ≡ decided low near
   unfolding ruling_of decided_of sighted
   counted_by true near o k r p e s = absurd (let z : ◌≡◌ {A = ℕ} 0 1 = cc in omega arith)
   counted_by false false o k r p e s = absurd (let z : ◌≡◌ {A = ℕ} 0 1 = cc in omega arith)
@@ -63,109 +58,86 @@ module _ (config : Cartesian3DTrackerConfig) (now : ℤ) (d : Detection) (c : Ca
     abbrev required : Option ℕ
     required = config.birth_persistence
 
-    pub decide_passed : (u : Candidates) → ruling.Passed ≡ ruling_of low near required → u ≡ over c (list_of c) → Decides (record { sighting = Waits; candidates = u }) low near
+    pub decide_passed : (u : Candidates) → ruling.Passed ≡ ruling_of low near required → u ≡ over c (list_of c) → given (record { begins = None; candidates = u }) ≡ decided low near
     decide_passed u e q = passed_by low near required u refl e q
 
-    pub decide_begins : (u : Candidates) → ruling.Begins ≡ ruling_of low near required → u ≡ over c (list_of c) → Decides (record { sighting = Begins 1; candidates = u }) low near
+    pub decide_begins : (u : Candidates) → ruling.Begins ≡ ruling_of low near required → u ≡ over c (list_of c) → given (record { begins = Some 1; candidates = u }) ≡ decided low near
     decide_begins u e q = begins_by low near required u e q
 
-    pub decide_counted : (k : ℕ) (r : Sighted) → ruling.Counted k ≡ ruling_of low near required → Sights c r (sighted_for config.birth_candidate_radius_m now d (Some k) (list_of c)) → Decides r low near
+    pub decide_counted : (k : ℕ) (r : Reply Sighted) → ruling.Counted k ≡ ruling_of low near required → r ≡ after_sighting c (sighted_for config.birth_candidate_radius_m now d (Some k) (list_of c)) → r ≡ decided low near
     decide_counted k r e s = counted_by low near required k r refl e s
 
 -- ---- a track behind k others
 
 module _ (d : Detection) (k id sightings : ℕ) (b : Begin) where
-  abbrev made : Reply Track3D
-  made = and_then (born_filter b.variance (moving_in d b) d) (λ f. given (track_from d id sightings b f))
-
-  tried_room : k < 64 → id < 2 ^ 64 - 1 → tried_of d k id sightings b ≡ made
+  pub try_room : k < 64 → id < 2 ^ 64 - 1 → made_of d id sightings b ≡ tried_of d k id sightings b
   unfolding tried_of
-  tried_room h g = rw (lt-ltb k 64 h, lt-ltb id (2 ^ 64 - 1) g)
+  try_room h g = rw (lt-ltb k 64 h, lt-ltb id (2 ^ 64 - 1) g)
 
-  no_place : 64 ≤ k → tried_of d k id sightings b ≡ refused 11
+  pub try_no_place : 64 ≤ k → refused 11 ≡ tried_of d k id sightings b
   unfolding tried_of
-  no_place h = rw (le-ltb k 64 h)
+  try_no_place h = rw (le-ltb k 64 h)
 
-  no_number : k < 64 → 2 ^ 64 - 1 ≤ id → tried_of d k id sightings b ≡ refused 11
+  pub try_no_number : k < 64 → 2 ^ 64 - 1 ≤ id → refused 11 ≡ tried_of d k id sightings b
   unfolding tried_of
-  no_number h g = rw (lt-ltb k 64 h, le-ltb id (2 ^ 64 - 1) g)
-
-  abbrev refusing : Refusal → Spawned
-  refusing why = record { outcome = Err why; track = blank_track }
-
-  tries : (r : Spawned) (reply : Reply Track3D) → tried_of d k id sightings b ≡ reply → answered r.outcome r.track ≡ reply → r.track ≡ track_in reply → Tries d k id sightings b r
-  tries r reply e p q = record { is = p ∙ sym e; track = q ∙ ap track_in (sym e) }
-
-  pub try_full : (r : Spawned) → r ≡ refusing TooMany → tried_of d k id sightings b ≡ refused 11 → Tries d k id sightings b r
-  try_full r q e = tries r (refused 11) e (ap (λ (s : Spawned). answered s.outcome s.track) q) (ap (λ (s : Spawned). s.track) q)
-
-  pub try_no_place : (r : Spawned) → r ≡ refusing TooMany → 64 ≤ k → Tries d k id sightings b r
-  try_no_place r q h = try_full r q (no_place h)
-
-  pub try_no_number : (r : Spawned) → r ≡ refusing TooMany → k < 64 → 2 ^ 64 - 1 ≤ id → Tries d k id sightings b r
-  try_no_number r q h g = try_full r q (no_number h g)
-
-  pub try_refused : (s r : Spawned) (why : Refusal) → k < 64 → id < 2 ^ 64 - 1 → Spawns d id sightings b s → s.outcome ≡ Err why → r ≡ refusing why → Tries d k id sightings b r
-  try_refused s r why h g p e q =
-      let z : tried_of d k id sightings b ≡ refused (number_of why) = tried_room h g ∙ sym p.is ∙ ap (λ (o : Result (Unit {0}) Refusal). answered o s.track) e in
-      tries r (refused (number_of why)) z (ap (λ (s : Spawned). answered s.outcome s.track) q) (ap (λ (s : Spawned). s.track) q)
-
-  pub try_done : (s : Spawned) → k < 64 → id < 2 ^ 64 - 1 → Spawns d id sightings b s → s.outcome ≡ Ok tt → Tries d k id sightings b s
-  try_done s h g p e =
-      let w = ap (λ (o : Result (Unit {0}) Refusal). answered o s.track) e in
-      let z : tried_of d k id sightings b ≡ given s.track = tried_room h g ∙ sym p.is ∙ w in
-      tries s (given s.track) z w refl
+  try_no_number h g = rw (lt-ltb k 64 h, le-ltb id (2 ^ 64 - 1) g)
 
 -- ---- both
 
-module _ (config : Cartesian3DTrackerConfig) (sensor : ℕ) (now : ℤ) (low near : Bool) (d : Detection) (k id : ℕ) (c : Candidates) (s : Sighted)
-    (sights : Sights c s (decided_of config now low near d (list_of c))) where
+module _ (config : Cartesian3DTrackerConfig) (sensor : ℕ) (now : ℤ) (low near : Bool) (d : Detection) (k id : ℕ) (c : Candidates) where
   abbrev reply : Reply One
   reply = one_of config sensor now low near d k id (list_of c)
 
-  considers : (r : Considered) (x : Reply One) → reply ≡ x → Considers c r x → Considers c r reply
-  considers r x e p = subst (Considers c r) (sym e) p
+  abbrev seen : Reply Sighting
+  seen = decided_of config now low near d (list_of c)
 
-  one_of_lem : (o : Reply Sighting) → decided_of config now low near d (list_of c) ≡ o → reply ≡ and_then o (λ x. one_with d k id (begin_with config now sensor) x.candidates x.enough)
+  pub consider_stops : (n : ℕ) → refused n ≡ after_sighting c seen → refused n ≡ after_one c reply
   unfolding one_of
-  one_of_lem o e = rw e
+  consider_stops n e = go seen e
+    where
+      go : (x : Reply Sighting) → refused n ≡ after_sighting c x → refused n ≡ after_one c (and_then x (λ y. one_with d k id (begin_with config now sensor) y.candidates y.enough))
+      go (refused m) e = cc
+      go (given y) e = never_given n (seen_in c y) e
 
   -- what was decided, by how the sighting ended
-  pub consider_waits : (t : Track3D) → s.sighting ≡ Waits → t ≡ blank_track → Considers c (record { fate = fated.Alone; track = t; candidates = s.candidates }) reply
-  unfolding one_with
-  consider_waits t e q =
-      let z : decided_of config now low near d (list_of c) ≡ given (record { candidates = list_of s.candidates; enough = None }) = sym sights.is ∙ ap (λ o. sighting_of o (list_of s.candidates)) e in
-      considers _ (given (record { candidates = list_of s.candidates; track = None })) (one_of_lem _ z)
-      (record { is = refl; left = rw z at sights.left; track = q })
+  pub consider_waits : (s : Sighted) → given s ≡ after_sighting c seen → s.begins ≡ None → given (record { candidates = s.candidates; begun = None }) ≡ after_one c reply
+  unfolding one_of one_with
+  consider_waits s e q = go seen e
+    where
+      go : (x : Reply Sighting) → given s ≡ after_sighting c x → given (record { candidates = s.candidates; begun = None }) ≡ after_one c (and_then x (λ y. one_with d k id (begin_with config now sensor) y.candidates y.enough))
+      go (refused m) e = never_given m s (sym e)
+      go (given y) e =
+          let p = given_same s (seen_in c y) e in
+          let w : y.enough ≡ None = sym (ap (λ (u : Sighted). u.begins) p) ∙ q in
+          rw (w, ap (λ (u : Sighted). u.candidates) p)
 
-  pub consider_full : (t : Track3D) → s.sighting ≡ Full → t ≡ blank_track → Considers c (record { fate = fated.Refused TooMany; track = t; candidates = c }) reply
-  consider_full t e q =
-      let z : decided_of config now low near d (list_of c) ≡ refused 11 = sym sights.is ∙ ap (λ o. sighting_of o (list_of s.candidates)) e in
-      considers _ (refused 11) (one_of_lem _ z) (record { is = refl; left = refl; track = q })
+  pub consider_begins : (s : Sighted) (n : ℕ) (b : Begin) (r : Reply Track3D) → given s ≡ after_sighting c seen → s.begins ≡ Some n → b ≡ begin_with config now sensor → r ≡ tried_of d k id n b
+      → and_then r (λ t. given (record { candidates = s.candidates; begun = Some t })) ≡ after_one c reply
+  unfolding one_of one_with
+  consider_begins s n b r e q z t = rw (t, z) (go seen e)
+    where
+      made : (l : List BirthCandidate) (u : Candidates) (o : Reply Track3D) → u ≡ over c l → and_then o (λ t. given (record { candidates = u; begun = Some t })) ≡ after_one c (and_then o (λ t. given (record { candidates = l; track = Some t })))
+      made l u (refused m) e = refl
+      made l u (given t) e = rw e
 
-  module _ (n : ℕ) (b : Begin) (r : Spawned) (e : s.sighting ≡ Begins n) (begin : b ≡ begin_with config now sensor) (tried : Tries d k id n b r) where
-    decided : decided_of config now low near d (list_of c) ≡ given (record { candidates = list_of s.candidates; enough = Some n })
-    decided = sym sights.is ∙ ap (λ o. sighting_of o (list_of s.candidates)) e
+      go : (x : Reply Sighting) → given s ≡ after_sighting c x
+          → and_then (tried_of d k id n (begin_with config now sensor)) (λ t. given (record { candidates = s.candidates; begun = Some t })) ≡ after_one c (and_then x (λ y. one_with d k id (begin_with config now sensor) y.candidates y.enough))
+      go (refused m) e = never_given m s (sym e)
+      go (given y) e =
+          let p = given_same s (seen_in c y) e in
+          let w : y.enough ≡ Some n = sym (ap (λ (u : Sighted). u.begins) p) ∙ q in
+          rw w (made y.candidates s.candidates (tried_of d k id n (begin_with config now sensor)) (ap (λ (u : Sighted). u.candidates) p))
 
-    answers : tried_of d k id n (begin_with config now sensor) ≡ answered r.outcome r.track
-    answers = ap (tried_of d k id n) (sym begin) ∙ sym tried.is
+-- ---- what was considered, as the list that is left
 
-    begun : (x : Reply Track3D) → answered r.outcome r.track ≡ x → reply ≡ and_then x (λ t. given (record { candidates = list_of s.candidates; track = Some t }))
-    unfolding one_with
-    begun x q = one_of_lem _ decided ∙ ap (λ (y : Reply Track3D). and_then y (λ t. given (record { candidates = list_of s.candidates; track = Some t }))) (answers ∙ q)
+pub considered_is : (c : Candidates) (r : Considered) (reply : Reply One) (o : Option Track3D) → given r ≡ after_one c reply → r.begun ≡ o → reply ≡ given (record { candidates = list_of r.candidates; track = o })
+considered_is c r (refused n) o e q = never_given n r (sym e)
+considered_is c r (given x) o e q =
+    let p = given_same r (record { candidates = over c x.candidates; begun = x.track }) e in
+    let l : x.candidates ≡ list_of r.candidates = sym (ap (λ (u : Considered). list_of u.candidates) p ∙ listed c x.candidates) in
+    let t : x.track ≡ o = sym (ap (λ (u : Considered). u.begun) p) ∙ q in
+    (λ i. given (record { candidates = l i; track = t i }))
 
-    pub consider_begun : r.outcome ≡ Ok tt → Considers c (record { fate = fated.Begun; track = r.track; candidates = s.candidates }) reply
-    consider_begun q =
-        considers _ (given (record { candidates = list_of s.candidates; track = Some r.track })) (begun _ (ap (λ (o : Result (Unit {0}) Refusal). answered o r.track) q))
-        (record { is = refl; left = rw decided at sights.left; track = refl })
-
-    pub consider_refused : (why : Refusal) → r.outcome ≡ Err why → Considers c (record { fate = fated.Refused why; track = r.track; candidates = c }) reply
-    consider_refused why q =
-        let z = ap (λ (o : Result (Unit {0}) Refusal). answered o r.track) q in
-        considers _ (refused (number_of why)) (begun _ z)
-        (record { is = refl; left = refl; track = tried.track ∙ ap track_in (sym tried.is ∙ z) })
-
--- ---- what was considered, by its fate
-
-pub fated_by : (c : Candidates) (r : Considered) (reply : Reply One) → Considers c r reply → (f : Fated) → r.fate ≡ f → reply ≡ fated_of f r.track (list_of r.candidates)
-fated_by c r reply p f e = sym p.is ∙ ap (λ (y : Fated). fated_of y r.track (list_of r.candidates)) e
+pub considered_not : (c : Candidates) (n : ℕ) (reply : Reply One) → refused n ≡ after_one c reply → reply ≡ refused n
+considered_not c n (refused m) e = cc
+considered_not c n (given o) e = never_given n (record { candidates = over c o.candidates; begun = o.track }) e

@@ -1,6 +1,6 @@
 -- The walk over the columns: one detection is a turn, and what the walk answers at a refusal and at its end. Assumes nothing.
-use Rattle.std.specs.Prelude.{Err, None, Ok, Option, Some}
-use mathlib.Core.Path.{◌≡◌, refl, sym, ap, ◌∙◌, subst}
+use Rattle.std.specs.Prelude.{None, Option, Some}
+use mathlib.Core.Path.{◌≡◌, refl, sym, ap, ◌∙◌}
 use mathlib.Core.Bool.{Bool, true, false, ◌&&◌}
 use mathlib.Core.List.{List, [], ◌∷◌, ◌++◌}
 use Prim.Native.Nat.{ℕ, zero, suc, min, ◌+◌, ◌-◌, ◌^◌, ◌≤◌, ◌<◌}
@@ -23,12 +23,10 @@ use Rattle.matrix.specs.Matrix.{Vector}
 use Rattle.filter.specs.declared.KalmanFilter.{KalmanFilter}
 use Rattle.detections.specs.declared.Detection.{Detection}
 use Rattle.types.specs.declared.batch.ObservationAssociation.{ObservationAssociation}
-use Rattle.types.specs.declared.refusal.Refusal.{Refusal}
 use Rattle.types.specs.declared.track.Track3D.{Track3D}
 use Rattle.types.specs.declared.tracker.BirthCandidate.{BirthCandidate}
 use Rattle.types.specs.declared.tracker.Cartesian3DTracker.{Cartesian3DTracker}
 use Rattle.types.specs.States.{State, state_of, tracks_of, sequences_of, candidates_of, over_state}
-use Rattle.types.specs.Refusals.{number_of}
 use Rattle.calls.specs.Update.{Match, Column, moving}
 use Rattle.calls.specs.Births.{Fate, updated, spawned, unmatched, Born, Births, Sighting, sighted, born_filter, born_under, with_track, with_candidates, spawned_by, born_if_enough, born_or_sighted, born_unless_low, low_score, near_confirmed, born_unless_taken, births_of}
 use Rattle.calls.specs.Process.{association_of, associations_from}
@@ -40,7 +38,7 @@ use Rattle.birth_candidates.specs.Candidates.{list_of}
 use Rattle.spawning.specs.Spawn.{track_from}
 use Rattle.birth_stage.specs.One.{decided_of, begin_with, tried_of, One, one_with, one_of}
 use Rattle.association.specs.Told.{column_from, columns_from}
-use Rattle.birth_stage.specs.Walk.{blanks, Walks}
+use Rattle.birth_stage.specs.Walk.{blanks, after_walk}
 
 -- ---- one detection, apart from the state and in it
 
@@ -340,13 +338,12 @@ module _ (config : Cartesian3DTrackerConfig) (sensor : ℕ) (now : ℤ) (places 
 -- ---- what the walk answers
 
 module _ (t : Cartesian3DTracker) (reply : Reply Births) where
-  pub walk_refused : (why : Refusal) (l : List ObservationAssociation) → reply ≡ refused (number_of why) → l ≡ blanks → Walks t (record { outcome = Err why; tracker = t; associations = l }) reply
-  walk_refused why l e q =
-      subst (Walks t (record { outcome = Err why; tracker = t; associations = l })) (sym e) (record { answers = record { is = refl; whole = refl }; told = q })
+  pub walk_stops : (n : ℕ) → reply ≡ refused n → refused n ≡ after_walk t reply
+  walk_stops n e = rw e
 
   pub walk_done : (s u : Cartesian3DTracker) (kept : Candidates) (l : List ObservationAssociation) (w : Births) → reply ≡ given w → u ≡ over_state s (with_candidates (list_of kept) (state_of s))
-      → w.state ≡ with_candidates (list_of kept) (state_of s) → Grown t s → l ≡ lay (associations_from 0 w.fates) blanks → Walks t (record { outcome = Ok tt; tracker = u; associations = l }) reply
+      → w.state ≡ with_candidates (list_of kept) (state_of s) → Grown t s → l ≡ lay (associations_from 0 w.fates) blanks → given (record { tracker = u; associations = l }) ≡ after_walk t reply
   walk_done s u kept l w e h a g q =
       let tracks : w.state.tracks ≡ tracks_of s = ap (λ (x : State). x.tracks) a ∙ (unfold state_of in refl) in
-      subst (Walks t (record { outcome = Ok tt; tracker = u; associations = l })) (sym e)
-      (record { answers = record { is = refl; whole = h ∙ ap (over_state s) (sym a) ∙ over_grown t s w.state g tracks }; told = q })
+      let z : u ≡ over_state t w.state = h ∙ ap (over_state s) (sym a) ∙ over_grown t s w.state g tracks in
+      rw e (λ i. given (record { tracker = z i; associations = q i }))

@@ -1,17 +1,21 @@
 -- The detections as columns, and what a walk over them answers.
-use Rattle.std.specs.Prelude.{ℕ, ◌≡◌, List, ℤ, replicate}
-use Rattle.number.specs.Reply.{Reply, refused, given, and_then}
+use Rattle.std.specs.Prelude.{ℕ, List, ℤ, replicate}
+use Rattle.number.specs.Reply.{Reply, given, and_then}
 use Rattle.lists.specs.Lay.{lay}
 use Rattle.settings.specs.declared.Cartesian3DTrackerConfig.{Cartesian3DTrackerConfig}
 use Rattle.types.specs.declared.batch.ObservationAssociation.{ObservationAssociation}
 use Rattle.types.specs.declared.tracker.Cartesian3DTracker.{Cartesian3DTracker}
-use Rattle.types.specs.States.{State}
+use Rattle.types.specs.States.{State, over_state}
 use Rattle.calls.specs.Update.{Column}
 use Rattle.types.specs.Batches.{blank_association}
 use Rattle.calls.specs.Births.{Births, remaining, with_candidates, confirmed_places, births_of}
 use Rattle.calls.specs.Process.{associations_from}
-use Rattle.calls.specs.Answers.{Answers}
+use Rattle.birth_candidates.specs.declared.Candidates.{Candidates}
 use Rattle.birth_stage.specs.declared.Walked.{Walked}
+
+-- the tracker's candidates by themselves
+abbrev pub candidates_in : Cartesian3DTracker → Candidates
+candidates_in t = record { items = t.candidates; count = t.candidate_count }
 
 abbrev pub blanks : List ObservationAssociation
 blanks = replicate 64 blank_association
@@ -21,11 +25,9 @@ unfoldable pub births_after : Cartesian3DTrackerConfig → ℕ → ℤ → List 
 births_after c sensor now cols s =
     and_then (remaining c.birth_candidate_timeout_ns now s.candidates) (λ l. births_of c sensor now (confirmed_places s.tracks) cols (with_candidates l s))
 
-abbrev pub told_in : Reply Births → List ObservationAssociation
-told_in (refused n) = blanks
-told_in (given w) = lay (associations_from 0 w.fates) blanks
+-- the whole tracker after the births on t, and the whole array of associations
+abbrev pub walked_on : Cartesian3DTracker → Births → Walked
+walked_on t w = record { tracker = over_state t w.state; associations = lay (associations_from 0 w.fates) blanks }
 
--- the whole tracker after the births, and the whole array of associations; a refusal leaves the tracker as it was
-pub record Walks (t : Cartesian3DTracker) (r : Walked) (reply : Reply Births) : Type 0 where
-  pub answers : Answers t r.tracker r.outcome (and_then reply (λ w. given w.state))
-  pub told : r.associations ≡ told_in reply
+abbrev pub after_walk : Cartesian3DTracker → Reply Births → Reply Walked
+after_walk t reply = and_then reply (λ w. given (walked_on t w))

@@ -2,18 +2,19 @@
 #![tactic(auto)]
 
 ghost use Rattle.std.specs.Prelude.{◌≡◌};
+ghost use Rattle.number.specs.Reply.{reply_by};
+ghost use Rattle.types.specs.Refusals.{number_of};
 ghost use Rattle.types.specs.States.{state_of, over_state};
 ghost use Rattle.calls.specs.Births.{updated, spawned, unmatched, births_of, with_candidates};
 ghost use Rattle.calls.specs.Process.{association_of};
 ghost use Rattle.birth_candidates.specs.Candidates.{list_of};
 ghost use Rattle.spawning.specs.Ruling.{places_of};
 ghost use Rattle.association.specs.Told.{columns_from};
-ghost use Rattle.birth_stage.specs.Walk.{births_after, Walks};
+ghost use Rattle.birth_stage.specs.Walk.{candidates_in, births_after, after_walk};
 
 use association::Pair;
 use birth_candidates::Candidates;
 use detections::Detection;
-use one::Fated;
 use spawning::ruling::Places;
 use types::batch::{ObservationAssociation, ObservationOutcome};
 use types::refusal::Refusal;
@@ -22,9 +23,9 @@ use types::{MAX_OBSERVATIONS, MAX_SEQUENCES, MAX_TRACKS};
 
 pub mod one;
 
+// The tracker after the births of a batch, and what is told of each detection.
 #[derive(Clone, Copy)]
 pub struct Walked {
-    pub outcome: Result<(), Refusal>,
     pub tracker: Cartesian3DTracker,
     pub associations: [ObservationAssociation; MAX_OBSERVATIONS],
 }
@@ -62,18 +63,25 @@ pub fn begun(j: usize, id: u64) -> ObservationAssociation
     }
 }
 
-// The tracker with these candidates in the first places of its own, and counts that are no more than there are places.
-fn settled(mut s: Cartesian3DTracker, kept: Candidates) -> Cartesian3DTracker
-    ensures { result ≡ over_state s (with_candidates (list_of kept) (state_of s)) }
+// The tracker's candidates by themselves.
+fn candidates_of(t: &Cartesian3DTracker) -> Candidates
+    ensures { result ≡ candidates_in t.now }
 {
-    let items = s.candidates;
-    let held = Candidates {
+    let items = t.candidates;
+    Candidates {
         items,
-        count: s.candidate_count,
-    };
-    let laid = birth_candidates::laid(held, kept);
-    let places = laid.items;
-    s.candidates = places;
+        count: t.candidate_count,
+    }
+}
+
+// The tracker with these candidates in the first places of its own, and counts that are no more than there are places.
+fn settled(mut s: Cartesian3DTracker, kept: &Candidates) -> Cartesian3DTracker
+    ensures { result ≡ over_state s (with_candidates (list_of kept.now) (state_of s)) }
+{
+    let held = candidates_of(&s);
+    let laid = held.laid(kept);
+    let items = laid.items;
+    s.candidates = items;
     s.candidate_count = laid.count;
     s.track_count = tables::taken(s.track_count, MAX_TRACKS);
     s.sequence_count = tables::taken(s.sequence_count, MAX_SEQUENCES);
@@ -84,20 +92,19 @@ fn settled(mut s: Cartesian3DTracker, kept: Candidates) -> Cartesian3DTracker
 pub fn walk(
     t: Cartesian3DTracker,
     c: Candidates,
-    places: Places,
+    places: &Places,
     observations: [Detection; MAX_OBSERVATIONS],
     pairs: [Pair; MAX_OBSERVATIONS],
     m: usize,
     time: i64,
     sensor: u32,
-) -> Walked
-    ensures { Walks t result (births_of t.config sensor time (places_of places) (columns_from m pairs observations) (with_candidates (list_of c) (state_of t))) }
+) -> Result<Walked, Refusal>
+    ensures { reply_by number_of result ≡ after_walk t (births_of t.config sensor time (places_of places.now) (columns_from m pairs observations) (with_candidates (list_of c) (state_of t))) }
 {
     let config = t.config;
     let n = tables::taken(m, MAX_OBSERVATIONS);
     let blank = alone(0);
-    let blanks = [blank; MAX_OBSERVATIONS];
-    let mut associations = blanks;
+    let mut associations = [blank; MAX_OBSERVATIONS];
     let mut s = t;
     let mut kept = c;
     for j in 0..n {
@@ -109,33 +116,22 @@ pub fn walk(
         let d = observations[j];
         let k = tables::taken(s.track_count, MAX_TRACKS);
         let id = s.next_track_id;
-        let x = one::consider(kept, d, places, k, id, time, sensor, config);
-        match x.fate {
-            Fated::Alone => {
-                kept = x.candidates;
-                associations[j] = alone(j);
-            }
-            Fated::Begun => {
-                kept = x.candidates;
-                s.tracks[k] = x.track;
-                s.track_count = k + 1;
-                s.next_track_id = id + 1;
-                associations[j] = begun(j, id);
-            }
-            Fated::Refused(why) => {
-                return Walked {
-                    outcome: Err(why),
-                    tracker: t,
-                    associations: blanks,
-                };
-            }
-        }
+        let x = one::consider(&kept, d, places, k, id, time, sensor, config)?;
+        kept = x.candidates;
+        let Some(track) = x.begun else {
+            associations[j] = alone(j);
+            continue;
+        };
+        s.tracks[k] = track;
+        s.track_count = k + 1;
+        s.next_track_id = id + 1;
+        associations[j] = begun(j, id);
     }
-    Walked {
-        outcome: Ok(()),
-        tracker: settled(s, kept),
+    let tracker = settled(s, &kept);
+    Ok(Walked {
+        tracker,
         associations,
-    }
+    })
 }
 
 // The births of a batch on a tracker whose tracks are predicted and updated: old candidates go first.
@@ -146,31 +142,10 @@ pub fn births(
     m: usize,
     time: i64,
     sensor: u32,
-) -> Walked
-    ensures { Walks t result (births_after t.config sensor time (columns_from m pairs observations) (state_of t)) }
+) -> Result<Walked, Refusal>
+    ensures { reply_by number_of result ≡ after_walk t (births_after t.config sensor time (columns_from m pairs observations) (state_of t)) }
 {
-    let config = t.config;
-    let items = t.candidates;
-    let held = Candidates {
-        items,
-        count: t.candidate_count,
-    };
-    let aged = birth_candidates::age_by(held, time, config);
-    let outcome = aged.outcome;
-    let candidates = aged.candidates;
-    match outcome {
-        Ok(()) => {
-            let places = spawning::ruling::confirmed_places(t);
-            walk(t, candidates, places, observations, pairs, m, time, sensor)
-        }
-        Err(why) => {
-            let blank = alone(0);
-            let associations = [blank; MAX_OBSERVATIONS];
-            Walked {
-                outcome: Err(why),
-                tracker: t,
-                associations,
-            }
-        }
-    }
+    let candidates = candidates_of(&t).age_by(time, t.config)?;
+    let places = spawning::ruling::confirmed_places(t);
+    walk(t, candidates, &places, observations, pairs, m, time, sensor)
 }

@@ -1,43 +1,26 @@
 // One detection that no track took: the candidate that it continues or leaves, the track that it begins.
-ghost use Rattle.std.specs.Prelude.{◌≡◌, Err};
-ghost use Rattle.types.specs.Fresh.{blank_track};
+ghost use Rattle.std.specs.Prelude.{◌≡◌};
+ghost use Rattle.number.specs.Reply.{reply_by};
+ghost use Rattle.types.specs.Refusals.{number_of};
 ghost use Rattle.calls.specs.Births.{low_score, near_confirmed};
-ghost use Rattle.birth_candidates.specs.Candidates.{list_of, over, Sights};
+ghost use Rattle.birth_candidates.specs.Candidates.{list_of, after_sighting};
 ghost use Rattle.spawning.specs.Ruling.{places_of};
-ghost use Rattle.birth_stage.specs.One.{decided_of, begin_with, one_of, Tries, Considers};
+ghost use Rattle.birth_stage.specs.One.{decided_of, begin_with, tried_of, one_of, after_one};
 
-use birth_candidates::{Candidates, Sighted, Sighting};
+use birth_candidates::{Candidates, Sighted};
 use detections::Detection;
 use settings::Cartesian3DTrackerConfig;
 use spawning::ruling::{Places, Ruling};
-use spawning::spawn::{Begin, Spawned};
-use types::MAX_CANDIDATES;
+use spawning::spawn::Begin;
+use types::MAX_TRACKS;
 use types::refusal::Refusal;
 use types::track::Track3D;
 
-// What becomes of a detection that no track took.
-#[derive(Clone, Copy)]
-pub enum Fated {
-    Alone,
-    Begun,
-    Refused(Refusal),
-}
-
-// With the track that it begins, where it does, and the candidates after it.
+// What becomes of a detection that no track took: the candidates after it, and the track that it begins, where it does.
 #[derive(Clone, Copy)]
 pub struct Considered {
-    pub fate: Fated,
-    pub track: Track3D,
     pub candidates: Candidates,
-}
-
-// The candidates as they are; the count is of places.
-fn as_they_are(mut c: Candidates) -> Candidates
-    ensures { result ≡ over c (list_of c) }
-{
-    let n = tables::taken(c.count, MAX_CANDIDATES);
-    c.count = n;
-    c
+    pub begun: Option<Track3D>,
 }
 
 // What of the batch and the settings a birth depends on.
@@ -58,101 +41,57 @@ fn begin_with(config: Cartesian3DTrackerConfig, time: i64, sensor: u32) -> Begin
 
 // The detection by its score, the confirmed tracks and the candidates.
 pub fn decide(
-    c: Candidates,
+    c: &Candidates,
     d: Detection,
-    places: Places,
+    places: &Places,
     time: i64,
     config: Cartesian3DTrackerConfig,
-) -> Sighted
-    ensures { Sights c result (decided_of config time (low_score config d) (near_confirmed config (places_of places) d) d (list_of c)) }
+) -> Result<Sighted, Refusal>
+    ensures { reply_by number_of result ≡ after_sighting c.now (decided_of config time (low_score config d) (near_confirmed config (places_of places.now) d) d (list_of c.now)) }
 {
-    match spawning::ruling::rule(d, places, config) {
-        Ruling::Passed => Sighted {
-            sighting: Sighting::Waits,
-            candidates: as_they_are(c),
-        },
-        Ruling::Begins => Sighted {
-            sighting: Sighting::Begins(1),
-            candidates: as_they_are(c),
-        },
+    let begins = match spawning::ruling::rule(d, places, config) {
+        Ruling::Passed => None,
+        Ruling::Begins => Some(1),
         Ruling::Counted(required) => {
-            birth_candidates::sight(c, d, time, config.birth_candidate_radius_m, required)
+            return c.sight(d, time, config.birth_candidate_radius_m, required);
         }
-    }
-}
-
-fn refuse(why: Refusal) -> Spawned
-    ensures { result ≡ record { outcome = Err why; track = blank_track } }
-{
-    Spawned {
-        outcome: Err(why),
-        track: types::tracker::blank_track(),
-    }
+    };
+    let candidates = c.settled();
+    Ok(Sighted { begins, candidates })
 }
 
 // The track that the detection begins behind k others, where there is room for it.
-fn try_spawn(d: Detection, k: usize, id: u64, sightings: u32, b: Begin) -> Spawned
-    ensures { Tries d k id sightings b result }
+fn try_spawn(d: Detection, k: usize, id: u64, sightings: u32, b: Begin) -> Result<Track3D, Refusal>
+    ensures { reply_by number_of result ≡ tried_of d k id sightings b }
 {
-    if k < 64 {
-        if id < 18446744073709551615 {
-            let step = spawning::spawn::spawn(d, id, sightings, b);
-            let outcome = step.outcome;
-            match outcome {
-                Ok(()) => step,
-                Err(why) => refuse(why),
-            }
-        } else {
-            refuse(Refusal::TooMany)
-        }
+    if k < MAX_TRACKS && id < u64::MAX {
+        spawning::spawn::spawn(d, id, sightings, b)
     } else {
-        refuse(Refusal::TooMany)
+        Err(Refusal::TooMany)
     }
 }
 
 // A detection that no track took.
 pub fn consider(
-    c: Candidates,
+    c: &Candidates,
     d: Detection,
-    places: Places,
+    places: &Places,
     k: usize,
     id: u64,
     time: i64,
     sensor: u32,
     config: Cartesian3DTrackerConfig,
-) -> Considered
-    ensures { Considers c result (one_of config sensor time (low_score config d) (near_confirmed config (places_of places) d) d k id (list_of c)) }
+) -> Result<Considered, Refusal>
+    ensures { reply_by number_of result ≡ after_one c.now (one_of config sensor time (low_score config d) (near_confirmed config (places_of places.now) d) d k id (list_of c.now)) }
 {
-    let seen = decide(c, d, places, time, config);
-    let sighting = seen.sighting;
+    let seen = decide(c, d, places, time, config)?;
     let candidates = seen.candidates;
-    match sighting {
-        Sighting::Waits => Considered {
-            fate: Fated::Alone,
-            track: types::tracker::blank_track(),
-            candidates,
-        },
-        Sighting::Begins(n) => {
-            let step = try_spawn(d, k, id, n, begin_with(config, time, sensor));
-            let outcome = step.outcome;
-            let track = step.track;
-            match outcome {
-                Ok(()) => Considered {
-                    fate: Fated::Begun,
-                    track,
-                    candidates,
-                },
-                Err(why) => Considered {
-                    fate: Fated::Refused(why),
-                    track,
-                    candidates: c,
-                },
-            }
+    let begun = match seen.begins {
+        None => None,
+        Some(sightings) => {
+            let track = try_spawn(d, k, id, sightings, begin_with(config, time, sensor))?;
+            Some(track)
         }
-        Sighting::Full => Considered {
-            fate: Fated::Refused(Refusal::TooMany),
-            track: types::tracker::blank_track(),
-            candidates: c,
-        },
-    }
+    };
+    Ok(Considered { candidates, begun })
 }

@@ -3,86 +3,66 @@ use Rattle.std.specs.Prelude.{Err, Ok, Result}
 use mathlib.Core.Path.{◌≡◌, refl, sym, ap, subst, ◌∙◌}
 use Prim.Native.Nat.{ℕ, ◌<◌}
 use native.Mathlib.Omega.{arith}
-use Rattle.number.specs.Reply.{Reply, refused, given, code_of}
-use Rattle.number.proofs.Replies.{never_given}
-use Rattle.types.specs.declared.batch.ObservationBatch3D.{ObservationBatch3D}
+use Rattle.number.specs.Reply.{Reply, refused, given, and_then, code_of}
+use Rattle.number.proofs.Replies.{never_given, given_same, bound}
 use Rattle.types.specs.declared.refusal.Refusal.{Refusal}
 use Rattle.types.specs.declared.tracker.Cartesian3DTracker.{Cartesian3DTracker}
 use Rattle.types.specs.Refusals.{number_of, reply_of}
 use Rattle.types.specs.States.{State}
+use Rattle.types.specs.Batches.{blank_report, whole_report}
 use Rattle.calls.specs.Process.{Done}
-use Rattle.calls.specs.Answers.{Answers, verdict_on, report_after}
+use Rattle.calls.specs.Answers.{Answers, verdict_on}
 use Rattle.records.specs.declared.tracker.PkTracker.{PkTracker}
-use Rattle.records.specs.Trackers.{tracker_of, pk_after}
+use Rattle.records.specs.Trackers.{tracker_of, pk_over, pk_after}
 use Rattle.records.proofs.Overs.{laid_over_lem}
-use Rattle.batch_records.specs.declared.PkBatch.{PkBatch}
-use Rattle.batch_records.specs.declared.PkReport.{PkReport}
-use Rattle.batch_records.specs.Batches.{batch_of, report_to}
-use Rattle.owner.specs.Owner.{Runs}
+use Rattle.batch_records.specs.Batches.{report_to}
+use Rattle.owner.specs.Owner.{after_call}
 use Rattle.owner.specs.declared.batch.Ran.{Ran}
-use Rattle.owner.specs.Processes.{batch_reply_on, Processes}
+use Rattle.owner.specs.Processes.{after_batch}
 use Rattle.owner.proofs.Predicting.{number_above}
-use Rattle.c_tracker.specs.Calls.{Heeded, settled, answer_of, processed_by, batch_on, batch_answer}
+use Rattle.c_tracker.specs.Calls.{Heeded, settled, answer_of, processed_by}
 
 verdict_code : {A : Type 0} (reply : Reply A) → code_of (verdict_on reply) ≡ code_of reply
 verdict_code (refused n) = refl
 verdict_code (given v) = refl
 
+-- a refusal that is named has its number, which is above 0
+named : {A : Type 0} (r : Reply A) (why : Refusal) → r ≡ refused (number_of why) → Heeded r
+named r why e n w = let f : refused (number_of why) ≡ refused n = sym e ∙ w in let same : number_of why ≡ n = cc in subst (λ (k : ℕ). 0 < k) same (number_above why)
+
+carried : {A : Type 0} (r : Reply A) (v : A) → r ≡ given v → Heeded r
+carried r v e n w = never_given n v (sym w ∙ e)
+
+-- a refusal that stands after a step was there before it
+refused_first : {A B : Type 0} (r : Reply A) (f : A → B) (n : ℕ) → refused n ≡ and_then r (λ x. given (f x)) → r ≡ refused n
+refused_first (refused m) f n e = sym (let same : n ≡ m = cc in ap refused same)
+refused_first (given x) f n e = never_given n (f x) e
+
 -- ---- a call that was worked out in the record itself
 
-module _ (t u : PkTracker) (code : ℕ) (reply : Reply State) (h : Runs t u code reply) where
-  pub run_carried : code ≡ 0 → record { tracker = u; code = 0 } ≡ answer_of t reply
+module _ (t : PkTracker) (reply : Reply State) where
+  pub call_carried : (u : PkTracker) → given u ≡ after_call t reply → (record { tracker = u; code = 0 } ≡ answer_of t reply) × Heeded reply
   unfolding pk_after
-  run_carried e = go reply refl
-    where
-      go : (r : Reply State) → reply ≡ r → record { tracker = u; code = 0 } ≡ answer_of t reply
-      go (refused n) w = absurd (let k : code ≡ n = h.is ∙ ap code_of w in let z = h.heeded n w in omega arith)
-      go (given s) w = ap (λ (x : PkTracker). record { tracker = x; code = 0 }) (h.whole s w) ∙ ap (answer_of t) (sym w)
+  call_carried u e =
+      let b = bound reply (λ s. given (pk_over t s)) u (sym e) in
+      (ap (λ (x : PkTracker). record { tracker = x; code = 0 }) (sym (given_same _ u b.2)) ∙ ap (answer_of t) (sym b.1), carried reply b.0 b.1)
 
-  pub run_refused : (code ≡ 0 → ⊥) → record { tracker = t; code = code } ≡ answer_of t reply
+  pub call_refused : (why : Refusal) → refused (number_of why) ≡ after_call t reply → (record { tracker = t; code = number_of why } ≡ answer_of t reply) × Heeded reply
   unfolding pk_after
-  run_refused e = go reply refl
-    where
-      go : (r : Reply State) → reply ≡ r → record { tracker = t; code = code } ≡ answer_of t reply
-      go (refused n) w = ap (λ (k : ℕ). record { tracker = t; code = k }) (h.is ∙ ap code_of w) ∙ ap (answer_of t) (sym w)
-      go (given s) w = absurd (e (h.is ∙ ap code_of w))
+  call_refused why e = let w = refused_first reply (pk_over t) (number_of why) e in (ap (answer_of t) (sym w), named reply why w)
 
 -- ---- a batch that was worked out in the record itself
 
-module _ (t : PkTracker) (b : PkBatch) (r : Ran) (y : ObservationBatch3D) (e : y ≡ batch_of b) (h : Processes t y r) where
-  reply_is : batch_reply_on t y ≡ batch_on t b
-  reply_is = ap (batch_reply_on t) e
+module _ (t : PkTracker) (reply : Reply Done) where
+  pub batch_carried : (r : Ran) → given r ≡ after_batch t reply → (record { tracker = r.tracker; report = report_to 0 r.report } ≡ processed_by t reply) × Heeded reply
+  unfolding pk_after
+  batch_carried r e =
+      let b = bound reply (λ d. given (record { tracker = pk_over t d.state; report = whole_report d.report })) r (sym e) in
+      (ap (λ (x : Ran). record { tracker = x.tracker; report = report_to 0 x.report }) (sym (given_same _ r b.2)) ∙ ap (processed_by t) (sym b.1), carried reply b.0 b.1)
 
-  pub batch_carried : (report : PkReport) → r.outcome ≡ Ok tt → report ≡ report_to 0 r.report → (record { tracker = r.tracker; report = report } ≡ batch_answer t b) × Heeded (batch_on t b)
-  unfolding batch_answer pk_after
-  batch_carried report d q = go (batch_on t b) refl
-    where
-      done : (x : Reply Done) → batch_on t b ≡ x → ◌≡◌ {A = Reply (Unit {0})} (given tt) (verdict_on x)
-      done x w = ap {B = Reply (Unit {0})} reply_of (sym d) ∙ h.is ∙ ap verdict_on (reply_is ∙ w)
-
-      go : (x : Reply Done) → batch_on t b ≡ x → (record { tracker = r.tracker; report = report } ≡ batch_answer t b) × Heeded (batch_on t b)
-      go (refused n) w = never_given n tt (sym (done (refused n) w))
-      go (given x) w =
-          ((λ i. record { tracker = h.whole x (reply_is ∙ w) i; report = (q ∙ ap (report_to 0) (h.reported ∙ ap report_after (reply_is ∙ w))) i }) ∙ ap (processed_by t) (sym w), λ n f. never_given n x (sym f ∙ w))
-
-  pub batch_refused : (why : Refusal) (report : PkReport) → r.outcome ≡ Err why → report ≡ report_to (number_of why) r.report → (record { tracker = t; report = report } ≡ batch_answer t b) × Heeded (batch_on t b)
-  unfolding batch_answer pk_after
-  batch_refused why report d q = go (batch_on t b) refl
-    where
-      is : (x : Reply Done) → batch_on t b ≡ x → ◌≡◌ {A = Reply (Unit {0})} (refused (number_of why)) (verdict_on x)
-      is x w = ap {B = Reply (Unit {0})} reply_of (sym d) ∙ h.is ∙ ap verdict_on (reply_is ∙ w)
-
-      go : (x : Reply Done) → batch_on t b ≡ x → (record { tracker = t; report = report } ≡ batch_answer t b) × Heeded (batch_on t b)
-      go (given x) w = never_given (number_of why) tt (is (given x) w)
-      go (refused n) w =
-          let f : ◌≡◌ {A = Reply (Unit {0})} (refused (number_of why)) (refused n) = is (refused n) w in
-          let same : number_of why ≡ n = cc in (
-            (λ i. record { tracker = t; report = (q ∙ (λ k. report_to (same k) ((h.reported ∙ ap report_after (reply_is ∙ w)) k))) i }) ∙ ap (processed_by t) (sym w),
-            λ m g. (let s : m ≡ n = numbers m n (sym g ∙ w) in subst (λ (k : ℕ). 0 < k) (same ∙ sym s) (number_above why)),
-          )
-        where
-          numbers : (m n : ℕ) → ◌≡◌ {A = Reply Done} (refused m) (refused n) → m ≡ n
-          numbers m n e = cc
+  pub batch_refused : (why : Refusal) → refused (number_of why) ≡ after_batch t reply → (record { tracker = t; report = report_to (number_of why) blank_report } ≡ processed_by t reply) × Heeded reply
+  unfolding pk_after
+  batch_refused why e = let w = refused_first reply (λ d. record { tracker = pk_over t d.state; report = whole_report d.report }) (number_of why) e in (ap (processed_by t) (sym w), named reply why w)
 
 -- ---- a call of the tracker
 

@@ -13,6 +13,7 @@ use batch_records::{PkBatch, PkReport};
 use records::config::PkSettings;
 use records::tracker::PkTracker;
 use settings::Cartesian3DTrackerConfig;
+use settings::bad_field::BadField;
 use types::refusal::Refusal;
 use types::tracker::Cartesian3DTracker;
 
@@ -36,7 +37,7 @@ fn code_of(outcome: Result<(), Refusal>) -> u32
 {
     match outcome {
         Ok(()) => 0,
-        Err(why) => owner::number_of(why),
+        Err(why) => u32::from(why),
     }
 }
 
@@ -57,7 +58,7 @@ pub fn settings_default() -> PkSettings
     records::config::settings_to(Cartesian3DTrackerConfig::default())
 }
 
-fn validate(s: PkSettings) -> Result<(), u32>
+fn validate(s: PkSettings) -> Result<(), BadField>
     ensures { settings.reply_of result ≡ settings_reply (settings_of s) }
 {
     records::config::settings_of(s).validate()
@@ -69,7 +70,7 @@ pub fn settings_check(s: PkSettings) -> u32
 {
     match validate(s) {
         Ok(()) => 0,
-        Err(field) => field,
+        Err(field) => u32::from(field),
     }
 }
 
@@ -93,18 +94,12 @@ pub fn new(t: PkTracker, s: PkSettings) -> Answer
 pub fn predict_to(t: PkTracker, at: i64) -> Answer
     ensures { (result ≡ predict_answer t at) × Heeded (predict_on t at) }
 {
-    let ran = owner::predict_to(t, at);
-    let after = ran.tracker;
-    if ran.code == 0 {
-        Answer {
-            tracker: after,
-            code: 0,
-        }
-    } else {
-        Answer {
+    match owner::predict_to(t, at) {
+        Ok(tracker) => Answer { tracker, code: 0 },
+        Err(why) => Answer {
             tracker: t,
-            code: ran.code,
-        }
+            code: u32::from(why),
+        },
     }
 }
 
@@ -125,18 +120,18 @@ pub fn set_class_prior(t: PkTracker, id: u64, label: u32, confidence: f64) -> An
 pub fn process_batch(t: PkTracker, b: PkBatch) -> Processed
     ensures { (result ≡ batch_answer t b) × Heeded (batch_on t b) }
 {
-    let ran = owner::batch::process_batch(t, batch_records::batch_of(b));
-    let outcome = ran.outcome;
-    let after = ran.tracker;
-    let report = ran.report;
-    match outcome {
-        Ok(()) => Processed {
-            tracker: after,
-            report: batch_records::report_to(0, report),
-        },
+    match owner::batch::process_batch(t, batch_records::batch_of(b)) {
+        Ok(ran) => {
+            let tracker = ran.tracker;
+            let report = ran.report;
+            Processed {
+                tracker,
+                report: batch_records::report_to(0, report),
+            }
+        }
         Err(why) => Processed {
             tracker: t,
-            report: batch_records::report_to(owner::number_of(why), report),
+            report: batch_records::report_to(u32::from(why), stages::blank_report()),
         },
     }
 }

@@ -1,9 +1,9 @@
 -- What a batch that is accepted has passed, and what the tables then do. Assumes nothing.
 use Rattle.std.specs.Prelude.{Option}
 use mathlib.Core.Path.{◌≡◌}
-use mathlib.Core.List.{List, [], ◌∷◌}
+use mathlib.Core.List.{List, []}
 use mathlib.Core.Bool.{true, not}
-use Prim.Native.Nat.{ℕ, ◌<◌}
+use Prim.Native.Nat.{ℕ}
 use lib.Dec.{leb}
 use lib.IntN.{ℤ}
 use lib.ListN.{take}

@@ -110,7 +110,7 @@ module _ (radius : Float) (now : ℤ) (d : Detection) where
   sighted_for (Some required) l = sighted_by required l (nearest_from 0 None l)
 
 unfoldable pub sighted : Cartesian3DTrackerConfig → ℤ → Detection → List BirthCandidate → Reply Sighting
-sighted c now d l = sighted_for c.birth_candidate_radius_m now d (c.birth_persistence) l
+sighted c now d l = sighted_for c.birth_candidate_radius_m now d c.birth_persistence l
 
 -- ---- a new track
 
@@ -210,11 +210,11 @@ confirmed_places [] = []
 confirmed_places (t ∷ ts) = let rest = confirmed_places ts in cond (is_confirmed t.lifecycle.state) ((snapshot_of t).position ∷ rest) rest
 
 abbrev pub low_score : Cartesian3DTrackerConfig → Detection → Bool
-low_score c d = set_and (score_below d.score) (c.new_track_score_threshold)
+low_score c d = set_and (score_below d.score) c.new_track_score_threshold
 
 -- where a birth distance is set, a place nearer than that
 abbrev pub near_confirmed : Cartesian3DTrackerConfig → List Vector → Detection → Bool
-near_confirmed c places d = set_and (λ least. any (λ p. nearer p d.position least) places) (c.min_birth_distance_m)
+near_confirmed c places d = set_and (λ least. any (λ p. nearer p d.position least) places) c.min_birth_distance_m
 
 module _ (c : Cartesian3DTrackerConfig) (sensor : ℕ) (now : ℤ) (places : List Vector) where
   -- whether a track took it: then it is told as an update, and begins nothing (767: `for &j in &assignment.unmatched_columns`)

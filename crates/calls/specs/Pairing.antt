@@ -14,7 +14,9 @@ use Rattle.kuhn_munkres.specs.Assignment.{in_one, named, takers_reply}
 use Rattle.detections.specs.declared.Detection.{Detection}
 use Rattle.detections.specs.declared.pairs.PairConfig.{PairConfig}
 use Rattle.detections.specs.declared.pairs.Target.{Target}
-use Rattle.detections.specs.Pairs.{Ruling, forbidden, allowed, target_of, verdict_of}
+use Rattle.detections.specs.declared.pairs.Ruling.{Ruling}
+use Rattle.detections.specs.declared.pairs.Ruling.TheVariants.{Allowed, Forbidden}
+use Rattle.detections.specs.Pairs.{target_of, verdict_of}
 use Rattle.types.specs.declared.track.Track3D.{Track3D}
 
 -- ---- the rule for a pair, and the cost table
@@ -33,8 +35,8 @@ verdict c t d = verdict_of c (target_for t) d
 
 -- 01, Assignment: "a cost not finite forbids the pair": +infinity, as in the Rust
 abbrev pub cost_of : Ruling → Float
-cost_of (allowed cost) = cost
-cost_of (forbidden rule) = inf false
+cost_of (Allowed cost) = cost
+cost_of (Forbidden rule) = inf false
 
 module _ (c : PairConfig) where
   unfoldable pub cost_reply : Track3D → Detection → Reply Float

@@ -35,7 +35,7 @@ moving_of (Some std) None = None
 moving_of (Some std) (Some v) = Some (record { x = v.x; y = v.y; deviation = std })
 
 abbrev pub moving : Cartesian3DTrackerConfig → Detection → Option Moving
-moving c d = moving_of (c.velocity_measurement_std) d.velocity
+moving c d = moving_of c.velocity_measurement_std d.velocity
 
 unfoldable pub velocity_updated : Option Moving → KalmanFilter → Reply KalmanFilter
 velocity_updated None f = given f

@@ -26,7 +26,7 @@ use Rattle.types.specs.Refusals.{number_of, reply_of}
 use Rattle.types.specs.declared.refusal.Refusal.{Refusal}
 use Rattle.calls.specs.Pairing.{assigned, cascaded}
 use Rattle.kuhn_munkres.proofs.Labels.{map_at}
-use Rattle.cascade.specs.Stages.{row_name, Pointwise, stage_reply, StageAnswer, CascadeAnswer}
+use Rattle.cascade.specs.Stages.{stage_reply, StageAnswer, CascadeAnswer}
 
 -- ---- a given reply has a taker, or none, for each column
 
@@ -118,63 +118,48 @@ module _ (gate : Float) (flags : List Bool) (n m : ℕ) (costs : List Float) whe
       go (refused k) e = refl
       go (given one) e = then_second one (own_long one e)
 
--- ---- the names of the rows as masks
+-- ---- the others, which take part in the second stage
 
-name_zero : (b : Bool) → eqb (row_name b) 0 ≡ b
-name_zero true = refl
-name_zero false = refl
+module _ (flags : List Bool) (n : ℕ) (costs : List Float) (m : ℕ) (hm : m ≤ 64) (gate : Float) (before mid : List ℕ) (fresh : before ≡ replicate 64 64) where
+  abbrev F : List Bool
+  F = take n flags
 
-name_one : (b : Bool) → eqb (row_name b) 1 ≡ not b
-name_one true = refl
-name_one false = refl
+  nones : takers_of m before ≡ replicate m None
+  nones = ap (takers_of m) fresh ∙ none_taken m 64 hm
 
-module _ (flags : List Bool) (n : ℕ) (start names : List ℕ) (hn : n ≤ 64) (long : length flags ≡ 64) (s : Pointwise (λ i. row_name (get_or flags i false)) n start names) where
-  mask : (g : ℕ) (f : Bool → Bool) → ((b : Bool) → eqb (row_name b) g ≡ f b) → map (λ x. eqb x g) (take n names) ≡ map f (take n flags)
-  mask g f e =
-      let a : length (take n names) ≡ n = length-take-le n names (rw s.long hn) in
-      let b : length (take n flags) ≡ n = length-take-le n flags (rw long hn) in
-      let c : length (map (λ x. eqb x g) (take n names)) ≡ n = length-map (take n names) (λ x. eqb x g) ∙ a in
-      ext_get_or false (map (λ x. eqb x g) (take n names)) (map f (take n flags)) (c ∙ sym (length-map (take n flags) f ∙ b)) (λ i h. at a b i (rw c at h))
-    where
-      at : length (take n names) ≡ n → length (take n flags) ≡ n → (i : ℕ) → i < n → get_or (map (λ x. eqb x g) (take n names)) i false ≡ get_or (map f (take n flags)) i false
-      at a b i h =
-          map_at (λ x. eqb x g) (take n names) i 0 false (rw a h) ∙ ap (λ (x : ℕ). eqb x g) (get_or-take n names i 0 h ∙ s.done i h) ∙ e (get_or flags i false)
-          ∙ sym (map_at f (take n flags) i false false (rw b h) ∙ ap f (get_or-take n flags i false h))
+  first_is : (r : Reply (Unit {0})) → StageAnswer costs n m gate flags r before mid → and_then r (λ u. given (takers_of m mid)) ≡ stage_reply gate F (rows_of n m costs) (replicate m None)
+  first_is r S = rw nones at S.is
 
-  map_same : (l : List Bool) → map (λ b. b) l ≡ l
-  map_same [] = refl
-  map_same (b ∷ l) = ap {B = List Bool} (λ r. b ∷ r) (map_same l)
+  pub cascade_stopped : (o : Result (Unit {0}) Refusal) (why : Refusal) → o ≡ Err why → StageAnswer costs n m gate flags (reply_of o) before mid → CascadeAnswer costs n m gate flags (refused (number_of why)) before mid
+  cascade_stopped o why w A =
+      let k : ℕ = number_of why in
+      let S = subst (λ (q : Result (Unit {0}) Refusal). StageAnswer costs n m gate flags (reply_of q) before mid) w A in
+      let e = first_is (refused k) S in
+      record {
+        long = S.long;
+        is = ap (λ (r : Reply (List (Option ℕ))). and_then r (stage_reply gate (map not F) (rows_of n m costs))) e ∙ cascade_is gate F n m costs;
+        rest = S.rest;
+        kept = λ j h. ap (takers_of m) (S.kept k refl) ∙ nones ∙ ap (λ (r : Reply (List (Option ℕ))). left_in r (replicate m None)) e;
+      }
 
-  module _ (costs : List Float) (m : ℕ) (hm : m ≤ 64) (gate : Float) (before mid : List ℕ) (fresh : before ≡ replicate 64 64) where
-    abbrev F : List Bool
-    F = take n flags
+  module _ (others : List Bool) (hn : n ≤ 64) (long : length flags ≡ 64) (others_long : length others ≡ 64) (turned : (i : ℕ) → i < 64 → get_or others i false ≡ not (get_or flags i false)) where
+    turned_front : take n others ≡ map not F
+    turned_front =
+        let a : length (take n others) ≡ n = length-take-le n others (rw others_long hn) in
+        let b : length F ≡ n = length-take-le n flags (rw long hn) in
+        ext_get_or false (take n others) (map not F) (a ∙ sym (length-map F not ∙ b)) (λ i h. at b i (rw a at h))
+      where
+        at : length F ≡ n → (i : ℕ) → i < n → get_or (take n others) i false ≡ get_or (map not F) i false
+        at b i h = get_or-take n others i false h ∙ turned i (omega arith) ∙ sym (map_at not F i false false (rw b h) ∙ ap not (get_or-take n flags i false h))
 
-    nones : takers_of m before ≡ replicate m None
-    nones = ap (takers_of m) fresh ∙ none_taken m 64 hm
-
-    first_is : (r : Reply (Unit {0})) → StageAnswer costs n m gate names 0 r before mid → and_then r (λ u. given (takers_of m mid)) ≡ stage_reply gate F (rows_of n m costs) (replicate m None)
-    first_is r S = rw (mask 0 (λ b. b) name_zero ∙ map_same F, nones) at S.is
-
-    pub cascade_stopped : (o : Result (Unit {0}) Refusal) (why : Refusal) → o ≡ Err why → StageAnswer costs n m gate names 0 (reply_of o) before mid → CascadeAnswer costs n m gate flags (refused (number_of why)) before mid
-    cascade_stopped o why w A =
-        let k : ℕ = number_of why in
-        let S = subst (λ (q : Result (Unit {0}) Refusal). StageAnswer costs n m gate names 0 (reply_of q) before mid) w A in
-        let e = first_is (refused k) S in
-        record {
-          long = S.long;
-          is = ap (λ (r : Reply (List (Option ℕ))). and_then r (stage_reply gate (map not F) (rows_of n m costs))) e ∙ cascade_is gate F n m costs;
-          rest = S.rest;
-          kept = λ j h. ap (takers_of m) (S.kept k refl) ∙ nones ∙ ap (λ (r : Reply (List (Option ℕ))). left_in r (replicate m None)) e;
-        }
-
-    pub cascade_done : (o : Result (Unit {0}) Refusal) → o ≡ Ok tt → (r : Reply (Unit {0})) (after : List ℕ) → StageAnswer costs n m gate names 0 (reply_of o) before mid → StageAnswer costs n m gate names 1 r mid after → CascadeAnswer costs n m gate flags r before after
+    pub cascade_done : (o : Result (Unit {0}) Refusal) → o ≡ Ok tt → (r : Reply (Unit {0})) (after : List ℕ) → StageAnswer costs n m gate flags (reply_of o) before mid → StageAnswer costs n m gate others r mid after → CascadeAnswer costs n m gate flags r before after
     cascade_done o w r after A T =
-        let S = subst (λ (q : Result (Unit {0}) Refusal). StageAnswer costs n m gate names 0 (reply_of q) before mid) w A in
+        let S = subst (λ (q : Result (Unit {0}) Refusal). StageAnswer costs n m gate flags (reply_of q) before mid) w A in
         let e = first_is (given tt) S in
         record {
           long = T.long;
           is =
-              (rw (mask 1 not name_one) at T.is)
+              (rw turned_front at T.is)
               ∙ ap (λ (r : Reply (List (Option ℕ))). and_then r (stage_reply gate (map not F) (rows_of n m costs))) e ∙ cascade_is gate F n m costs;
           rest = λ j h. T.rest j h ∙ S.rest j h;
           kept = λ j h. ap (takers_of m) (T.kept j h) ∙ ap (λ (r : Reply (List (Option ℕ))). left_in r (replicate m None)) e;

@@ -7,7 +7,7 @@ use Prim.Native.Nat.{ℕ, ◌+◌, ◌*◌, ◌≤◌, ◌<◌}
 use native.Mathlib.Decide.{dec_lt}
 use native.Mathlib.Nat.{mul-le-mul_right}
 use native.Mathlib.Omega.{arith}
-use borrow.Author.Tests.{eq-eqb, ne_eqb, lt-ltb, le-ltb}
+use borrow.Author.Tests.{lt-ltb, le-ltb}
 use lib.Dec.{eqb}
 use lib.ListN.{get_or, length, take, drop, length-map, get_or-eq_default}
 use lib.Seq.{get_or-take, get_or-drop, ext_get_or, length-take-le}
@@ -31,7 +31,7 @@ use Rattle.assignment.specs.Taking.{takers_of}
 use Rattle.calls.specs.Pairing.{assigned}
 use Rattle.types.specs.Refusals.{number_of, reply_of}
 use Rattle.types.specs.declared.refusal.Refusal.{Refusal}
-use Rattle.cascade.specs.Stages.{column_name, member_of, scattered_at, Pointwise, stage_reply, StageAnswer}
+use Rattle.cascade.specs.Stages.{row_name, column_name, member_of, scattered_at, Pointwise, stage_reply, StageAnswer}
 
 -- putting back at the columns that are free
 spread_merged : (t l : List (Option ℕ)) → spread (map free t) l t ≡ both_takers t l
@@ -41,17 +41,21 @@ spread_merged (Some i ∷ t) l = ap {B = List (Option ℕ)} (λ r. Some i ∷ r)
 spread_merged (None ∷ t) [] = ap {B = List (Option ℕ)} (λ r. None ∷ r) (spread_merged t [])
 spread_merged (None ∷ t) (o ∷ l) = ap {B = List (Option ℕ)} (λ r. o ∷ r) (spread_merged t l)
 
--- a column bears the stage's name where no row has taken it
-free_name : (g x : ℕ) → free (row_or x) ≡ eqb (column_name g x) g
-unfolding free
-free_name g x = go (dec_lt x 64)
-  where
-    go : Dec (x < 64) → free (row_or x) ≡ eqb (column_name g x) g
-    go (yes l) = rw (lt-ltb x 64 l) (sym (ne_eqb (g + 1) g (λ e. omega arith)))
-    go (no l) = rw (le-ltb x 64 (omega arith)) (sym (eq-eqb g g refl))
+-- a row bears the stage's name where it takes part, a column where no row has taken it
+part_name : (b : Bool) → b ≡ eqb (row_name b) 0
+part_name true = refl
+part_name false = refl
 
-module _ (costs : List Float) (n m : ℕ) (rowNames columnNames before : List ℕ) (g : ℕ) (hn : n ≤ 64) (hm : m ≤ 64) (size : length costs ≡ n * m) (rows_long : length rowNames ≡ 64) (before-long : length before ≡ 64)
-    (names : (j : ℕ) → j < m → get_or columnNames j 0 ≡ column_name g (get_or before j 0)) where
+free_name : (x : ℕ) → free (row_or x) ≡ eqb (column_name x) 0
+unfolding free
+free_name x = go (dec_lt x 64)
+  where
+    go : Dec (x < 64) → free (row_or x) ≡ eqb (column_name x) 0
+    go (yes l) = rw (lt-ltb x 64 l)
+    go (no l) = rw (le-ltb x 64 (omega arith))
+
+module _ (costs : List Float) (n m : ℕ) (part : List Bool) (rowNames columnNames before : List ℕ) (hn : n ≤ 64) (hm : m ≤ 64) (size : length costs ≡ n * m) (part-long : length part ≡ 64) (before-long : length before ≡ 64)
+    (parts : (i : ℕ) → i < n → get_or rowNames i 0 ≡ row_name (get_or part i false)) (names : (j : ℕ) → j < m → get_or columnNames j 0 ≡ column_name (get_or before j 0)) where
   abbrev R : List (List Float)
   R = rows_of n m costs
 
@@ -59,7 +63,7 @@ module _ (costs : List Float) (n m : ℕ) (rowNames columnNames before : List �
   cm = map free (takers_of m before)
 
   abbrev rm : List Bool
-  rm = map (λ x. eqb x g) (take n rowNames)
+  rm = take n part
 
   takers_long : (l : List ℕ) → length l ≡ 64 → length (takers_of m l) ≡ m
   takers_long l h = length-map (take m l) row_or ∙ length-take-le m l (rw h hm)
@@ -70,61 +74,61 @@ module _ (costs : List Float) (n m : ℕ) (rowNames columnNames before : List �
   cm_long : length cm ≡ m
   cm_long = length-map (takers_of m before) free ∙ takers_long before before-long
 
-  cm_at : (j : ℕ) → j < m → get_or cm j false ≡ bears columnNames g j
-  cm_at j h = map_at free (takers_of m before) j None false (rw (takers_long before before-long) h) ∙ ap free (before_at j h) ∙ free_name g (get_or before j 0) ∙ ap (λ (x : ℕ). eqb x g) (sym (names j h))
+  cm_at : (j : ℕ) → j < m → get_or cm j false ≡ bears columnNames 0 j
+  cm_at j h = map_at free (takers_of m before) j None false (rw (takers_long before before-long) h) ∙ ap free (before_at j h) ∙ free_name (get_or before j 0) ∙ ap (λ (x : ℕ). eqb x 0) (sym (names j h))
 
   rm_long : length rm ≡ n
-  rm_long = length-map (take n rowNames) (λ x. eqb x g) ∙ length-take-le n rowNames (rw rows_long hn)
+  rm_long = length-take-le n part (rw part-long hn)
 
-  rm_at : (i : ℕ) → i < n → get_or rm i false ≡ bears rowNames g i
-  rm_at i h = map_at (λ x. eqb x g) (take n rowNames) i 0 false (rw (length-take-le n rowNames (rw rows_long hn)) h) ∙ ap (λ (x : ℕ). eqb x g) (get_or-take n rowNames i 0 h)
+  rm_at : (i : ℕ) → i < n → get_or rm i false ≡ bears rowNames 0 i
+  rm_at i h = get_or-take n part i false h ∙ part_name (get_or part i false) ∙ ap (λ (x : ℕ). eqb x 0) (sym (parts i h))
 
-  own_row : (i : ℕ) → i < n → left_by cm (get_or R i []) ≡ group_row costs m columnNames g i
+  own_row : (i : ℕ) → i < n → left_by cm (get_or R i []) ≡ group_row costs m columnNames 0 i
   own_row i h =
       let e = rows_at n m costs i h in
       let l : length (get_or R i []) ≡ m = ap length e ∙ row_long i m costs (omega (arith, mul-le-mul_right m h, size)) in
       left_picked nan cm (get_or R i []) m cm_long l
       ∙ picked_same _ _ _ _ m cm_at (λ j q. ap (λ (r : List Float). get_or r j nan) e ∙ get_or-take m (drop (i * m) costs) j nan q ∙ get_or-drop (i * m) costs j nan)
 
-  table_is : map (left_by cm) (left_by rm R) ≡ group_table costs m rowNames columnNames g n
+  table_is : map (left_by cm) (left_by rm R) ≡ group_table costs m rowNames columnNames 0 n
   table_is =
       ap (map (left_by cm)) (left_picked [] rm R n rm_long (rows_count n m costs))
       ∙ picked_map (left_by cm) (λ i. get_or rm i false) (λ i. get_or R i []) n
       ∙ picked_same _ _ _ _ n rm_at own_row
 
-  members_is : left_by rm (up_from 0 R) ≡ picked (bears rowNames g) (λ i. i) n
+  members_is : left_by rm (up_from 0 R) ≡ picked (bears rowNames 0) (λ i. i) n
   members_is =
       left_picked 0 rm (up_from 0 R) n rm_long (up_long 0 R ∙ rows_count n m costs)
       ∙ picked_same _ _ _ _ n rm_at (λ i h. up_at 0 R i (rw (rows_count n m costs) h) ∙ (let z : 0 + i ≡ i = omega arith in z))
 
-  count_is : count cm ≡ ticks (bears columnNames g) m
+  count_is : count cm ≡ ticks (bears columnNames 0) m
   count_is =
       sym (count_left cm cm refl) ∙ ap length (left_picked false cm cm m cm_long cm_long)
       ∙ picked_long (λ i. get_or cm i false) (λ i. get_or cm i false) m ∙ ticks_same _ _ m cm_at
 
-  module _ (gate : Float) (own : List Float) (members : List ℕ) (r c : ℕ) (G : Gathered costs n m rowNames columnNames g own members r) (c-is : c ≡ ticks (bears columnNames g) m) where
+  module _ (gate : Float) (own : List Float) (members : List ℕ) (r c : ℕ) (G : Gathered costs n m rowNames columnNames 0 own members r) (c-is : c ≡ ticks (bears columnNames 0) m) where
     -- the table in front is the stage's
     pub stage_assigned : assigned gate (map (left_by cm) (left_by rm R)) (count cm) ≡ takers_reply (take (r * c) own) r c gate nought
     unfolding assigned
     stage_assigned =
-        let e : in_one (group_table costs m rowNames columnNames g n) ≡ take (r * c) own = sym (rw (← c-is) at G.table) in
-        let l : length (group_table costs m rowNames columnNames g n) ≡ r = picked_long (bears rowNames g) (group_row costs m columnNames g) n ∙ sym G.count in
+        let e : in_one (group_table costs m rowNames columnNames 0 n) ≡ take (r * c) own = sym (rw (← c-is) at G.table) in
+        let l : length (group_table costs m rowNames columnNames 0 n) ≡ r = picked_long (bears rowNames 0) (group_row costs m columnNames 0) n ∙ sym G.count in
         rw (table_is, e, l, count_is, ← c-is)
 
     few : r ≤ n
-    few = rw G.count (ticks_le (bears rowNames g) n)
+    few = rw G.count (ticks_le (bears rowNames 0) n)
 
     pub stage_fits : (r ≤ 64) × (c ≤ 64) × (r * c ≤ 4096)
     stage_fits =
         let a = few in
-        let b : c ≤ m = rw c-is (ticks_le (bears columnNames g) m) in
+        let b : c ≤ m = rw c-is (ticks_le (bears columnNames 0) m) in
         let p : r * c ≤ 64 * c = mul-le-mul_right c (let x : r ≤ 64 = omega arith in x) in
         (omega arith, omega arith, omega (arith, p))
 
     small : (k : ℕ) → k < r → get_or members k 0 < 64
     small k h =
-        let w : length (picked (bears rowNames g) (λ i. i) n) ≡ r = picked_long (bears rowNames g) (λ i. i) n ∙ sym G.count in
-        let b : get_or (picked (bears rowNames g) (λ i. i) n) k 0 < 64 = picked_all (λ (x : ℕ). x < 64) (bears rowNames g) (λ i. i) n 0 (λ i l. omega arith) k (rw w h) in
+        let w : length (picked (bears rowNames 0) (λ i. i) n) ≡ r = picked_long (bears rowNames 0) (λ i. i) n ∙ sym G.count in
+        let b : get_or (picked (bears rowNames 0) (λ i. i) n) k 0 < 64 = picked_all (λ (x : ℕ). x < 64) (bears rowNames 0) (λ i. i) n 0 (λ i l. omega arith) k (rw w h) in
         subst (λ (x : ℕ). x < 64) (ap (λ (l : List ℕ). get_or l k 0) (sym G.members_are) ∙ get_or-take r members k 0 h) b
 
     members_front : length (take r members) ≡ r
@@ -152,7 +156,7 @@ module _ (costs : List Float) (n m : ℕ) (rowNames columnNames before : List �
     stage_is y e = ap (λ (z : Reply (List (Option ℕ))). and_then z put) (e ∙ sym stage_assigned)
 
     pub stage_refused : (o : Result (Unit {0}) Refusal) (why : Refusal) (x : List (Option ℕ)) → o ≡ Err why → and_then (reply_of o) (λ u. given x) ≡ takers_reply (take (r * c) own) r c gate nought
-        → StageAnswer costs n m gate rowNames g (refused (number_of why)) before before
+        → StageAnswer costs n m gate part (refused (number_of why)) before before
     stage_refused o why x e w =
         record {
           long = before-long;
@@ -161,7 +165,7 @@ module _ (costs : List Float) (n m : ℕ) (rowNames columnNames before : List �
           kept = λ k h. refl;
         }
 
-    module _ (pk after : List ℕ) (pk-long : length pk ≡ 64) (s : Pointwise (scattered_at columnNames g pk r members before) m before after) where
+    module _ (pk after : List ℕ) (pk-long : length pk ≡ 64) (s : Pointwise (scattered_at columnNames pk r members before) m before after) where
       abbrev l : List (Option ℕ)
       l = map (named (take r members)) (takers_of c pk)
 
@@ -177,16 +181,16 @@ module _ (costs : List Float) (n m : ℕ) (rowNames columnNames before : List �
           ∙ ap (named (take r members)) (map_at row_or (take c pk) k 0 None (rw front_long h) ∙ ap row_or (get_or-take c pk k 0 h))
           ∙ named_is (get_or pk k 0)
 
-      by : (j : ℕ) → j < m → (b : Bool) → bears columnNames g j ≡ b → row_or (cond b (member_of members r (get_or pk (ticks (bears columnNames g) j) 0)) (get_or before j 0)) ≡ cond b (get_or l (ticks (bears columnNames g) j) None) (row_or (get_or before j 0))
-      by j h true e = sym (l_at (ticks (bears columnNames g) j) (rw c-is (ticks_below (bears columnNames g) j m h e)))
+      by : (j : ℕ) → j < m → (b : Bool) → bears columnNames 0 j ≡ b → row_or (cond b (member_of members r (get_or pk (ticks (bears columnNames 0) j) 0)) (get_or before j 0)) ≡ cond b (get_or l (ticks (bears columnNames 0) j) None) (row_or (get_or before j 0))
+      by j h true e = sym (l_at (ticks (bears columnNames 0) j) (rw c-is (ticks_below (bears columnNames 0) j m h e)))
       by j h false e = refl
 
       at : (j : ℕ) → j < m → get_or (takers_of m after) j None ≡ get_or (spread cm l (takers_of m before)) j None
       at j h =
           let a : get_or (takers_of m after) j None ≡ row_or (get_or after j 0) = map_at row_or (take m after) j 0 None (rw (length-take-le m after (rw s.long hm)) h) ∙ ap row_or (get_or-take m after j 0 h) in
-          let u : ticks (λ i. get_or cm i false) j ≡ ticks (bears columnNames g) j = ticks_same _ _ j (λ i q. cm_at i (omega arith)) in
+          let u : ticks (λ i. get_or cm i false) j ≡ ticks (bears columnNames 0) j = ticks_same _ _ j (λ i q. cm_at i (omega arith)) in
           let v : ticks (λ i. get_or cm i false) (length cm) ≡ c = ap (ticks (λ i. get_or cm i false)) cm_long ∙ ticks_same _ _ m (λ i q. cm_at i q) ∙ sym c-is in
-          a ∙ ap row_or (s.done j h) ∙ by j h (bears columnNames g j) refl
+          a ∙ ap row_or (s.done j h) ∙ by j h (bears columnNames 0 j) refl
           ∙ sym (spread_at None cm l (takers_of m before) j (cm_long ∙ sym (takers_long before before-long)) (rw (takers_long before before-long) h) (rw (v, l_long) (omega arith))
           ∙ rw (cm_at j h, u, before_at j h))
 
@@ -197,7 +201,7 @@ module _ (costs : List Float) (n m : ℕ) (rowNames columnNames before : List �
           (λ j q. at j (rw (takers_long after s.long) at q))
           ∙ spread_merged (takers_of m before) l)
 
-      pub stage_done : (o : Result (Unit {0}) Refusal) → o ≡ Ok tt → and_then (reply_of o) (λ u. given (takers_of c pk)) ≡ takers_reply (take (r * c) own) r c gate nought → StageAnswer costs n m gate rowNames g (given tt) before after
+      pub stage_done : (o : Result (Unit {0}) Refusal) → o ≡ Ok tt → and_then (reply_of o) (λ u. given (takers_of c pk)) ≡ takers_reply (take (r * c) own) r c gate nought → StageAnswer costs n m gate part (given tt) before after
       stage_done o e w =
           record {
             long = s.long;

@@ -6,22 +6,20 @@ use native.Mathlib.Nat.{suc-mul, zero-mul}
 use native.Mathlib.Omega.{arith}
 use lib.Ieee.{Float}
 use lib.ListN.{length, take, drop, length-drop, take-append-drop}
-use Rattle.std.specs.Prelude.{Result, Ok, Err, Option}
-use Rattle.number.specs.Reply.{Reply, given, and_then}
+use Rattle.std.specs.Prelude.{Option}
+use Rattle.number.specs.Reply.{Reply, refused}
 use Rattle.kuhn_munkres.specs.Assignment.{rows_of, in_one, takers_reply}
 use Rattle.matrix.specs.Matrix.{nought}
 use Rattle.kuhn_munkres.proofs.Rows.{rows_count}
 use Rattle.assignment.specs.declared.AssignmentError.{AssignmentError}
-use Rattle.assignment.specs.Replies.{reply_of}
+use Rattle.assignment.specs.Replies as assignment
+use Rattle.types.specs.Refusals.{number_of, of_assignment}
+use Rattle.types.proofs.Numbers.{number_of_assignment}
 use Rattle.calls.specs.Pairing.{assigned}
 
--- the answer with what was given
-pub with_takers : (o : Result (Unit {0}) AssignmentError) (x : List (Option ℕ)) (r : Reply (Unit {0})) → r ≡ reply_of o tt → and_then r (λ u. given x) ≡ reply_of o x
-with_takers o x r e = ap {B = Reply (List (Option ℕ))} (λ (y : Reply (Unit {0})). and_then y (λ u. given x)) e ∙ by o
-  where
-    by : (o : Result (Unit {0}) AssignmentError) → and_then (reply_of {A = Unit {0}} o tt) (λ u. given x) ≡ reply_of o x
-    by (Ok u) = refl
-    by (Err why) = refl
+-- a refusal of the assignment, in the tracker's terms
+pub refused_with : (why : AssignmentError) (r : Reply (List (Option ℕ))) → refused (assignment.number_of why) ≡ r → refused (number_of (of_assignment why)) ≡ r
+refused_with why r e = ap {B = Reply (List (Option ℕ))} refused (number_of_assignment why) ∙ e
 
 -- a table cut into rows, and put together
 in_one_rows : (n m : ℕ) (l : List Float) → length l ≡ n * m → in_one (rows_of n m l) ≡ l

@@ -1,49 +1,56 @@
 // The pairing in two stages: the recent rows with all columns, then the others with the columns that are left.
 #![tactic(auto)]
 
-ghost use Rattle.std.specs.Prelude.{◌≡◌, false, ◌+◌, ◌*◌, ◌≤◌, ◌<◌, length, get_or, take, replicate};
+ghost use Rattle.std.specs.Prelude.{◌≡◌, false, ◌*◌, ◌≤◌, length, get_or, take, replicate};
 ghost use Rattle.number.specs.Reply.{given, and_then};
 ghost use Rattle.kuhn_munkres.specs.Assignment.{rows_of, takers_reply};
 ghost use Rattle.matrix.specs.Matrix.{nought};
 ghost use Rattle.calls.specs.Pairing.{assigned};
 ghost use Rattle.assignment.specs.Taking.{takers_of};
 ghost use Rattle.types.specs.Refusals.{reply_of};
-ghost use Rattle.cascade.specs.Stages.{row_name, column_name, member_of, scattered_at, Pointwise, StageAnswer, CascadeAnswer};
+ghost use Rattle.cascade.specs.Stages.{row_name, column_name, member_of, scattered_at, Pointwise, Whole, StageAnswer, CascadeAnswer};
 
 use types::refusal::Refusal;
 
-// The name of a row: 0 for a recent one, 1 for another.
-fn row_name(recent: bool) -> usize
-    ensures { result ≡ row_name recent }
+// A table of costs, row after row.
+#[derive(Clone, Copy)]
+pub struct Table<'a> {
+    pub costs: &'a [f64],
+    pub rows: usize,
+    pub columns: usize,
+}
+
+// The name of a row: 0 for one that takes part in a stage, 1 for another.
+fn row_name(takes_part: bool) -> usize
+    ensures { result ≡ row_name takes_part }
 {
-    if recent { 0 } else { 1 }
+    if takes_part { 0 } else { 1 }
 }
 
 // The names of the first n rows.
-fn name_rows(flags: &[bool; 64], n: usize, names: &mut [usize; 64])
+fn name_rows(part: &[bool; 64], n: usize, names: &mut [usize; 64])
     requires { (n ≤ 64) × (length names.old ≡ 64) }
-    ensures { Pointwise (λ i. row_name (get_or flags.now i false)) n names.old names.new }
+    ensures { Pointwise (λ i. row_name (get_or part.now i false)) n names.old names.new }
 {
     for i in 0..n {
-        names[i] = row_name(flags[i]);
+        names[i] = row_name(part[i]);
     }
 }
 
-// The name of a column: g for one that no row has taken, g + 1 for another.
-fn column_name(taker: usize, g: usize) -> usize
-    requires { g < 2 }
-    ensures { result ≡ column_name g taker }
+// The name of a column: 0 for one that no row has taken yet, 1 for another.
+fn column_name(taker: usize) -> usize
+    ensures { result ≡ column_name taker }
 {
-    if taker < 64 { g + 1 } else { g }
+    if taker < 64 { 1 } else { 0 }
 }
 
 // The names of the first m columns.
-fn name_columns(takers: &[usize; 64], m: usize, g: usize, names: &mut [usize; 64])
-    requires { (m ≤ 64) × (g < 2) × (length names.old ≡ 64) }
-    ensures { Pointwise (λ j. column_name g (get_or takers.now j 0)) m names.old names.new }
+fn name_columns(takers: &[usize; 64], m: usize, names: &mut [usize; 64])
+    requires { (m ≤ 64) × (length names.old ≡ 64) }
+    ensures { Pointwise (λ j. column_name (get_or takers.now j 0)) m names.old names.new }
 {
     for j in 0..m {
-        names[j] = column_name(takers[j], g);
+        names[j] = column_name(takers[j]);
     }
 }
 
@@ -59,22 +66,21 @@ fn member(a: usize, r: usize, members: &[usize; 64]) -> usize
     if a < 64 { 0 } else { 64 }
 }
 
-// Gives each column of the name g the row that `picked` has for it, in order.
+// Gives each column of the name 0 the row that `picked` has for it, in order.
 fn scatter(
     names: &[usize; 64],
     m: usize,
-    g: usize,
     picked: &[usize; 64],
     r: usize,
     members: &[usize; 64],
     takers: &mut [usize; 64],
 )
     requires { (m ≤ 64) × (r ≤ 64) × (length takers.old ≡ 64) }
-    ensures { Pointwise (scattered_at names.now g picked.now r members.now takers.old) m takers.old takers.new }
+    ensures { Pointwise (scattered_at names.now picked.now r members.now takers.old) m takers.old takers.new }
 {
     let mut k: usize = 0;
     for j in 0..m {
-        if names[j] == g {
+        if names[j] == 0 {
             takers[j] = member(picked[k], r, members);
             k += 1;
         }
@@ -93,71 +99,66 @@ fn solve_front(
     ensures { (and_then (reply_of result) (λ _. given (takers_of columns picked.new)) ≡ takers_reply (take (rows * columns) own.now) rows columns gate nought) × (length picked.new ≡ 64) }
 {
     let end = rows * columns;
-    types::refusal::of_assignment(assignment::pair_columns(
-        &own[..end],
-        rows,
-        columns,
-        gate,
-        0.0,
-        picked,
-    ))
+    assignment::pair_columns(&own[..end], rows, columns, gate, 0.0, picked)?;
+    Ok(())
 }
 
-// One stage: the rows of the name g with the columns that no row has taken yet. A refusal leaves the takers as they were.
+// One stage: the rows that take part with the columns that no row has taken yet. A refusal leaves the takers as they were.
 fn pair_stage(
-    costs: &[f64],
-    n: usize,
-    m: usize,
+    table: Table,
     gate: f64,
-    names: &[usize; 64],
-    g: usize,
+    part: &[bool; 64],
     takers: &mut [usize; 64],
 ) -> Result<(), Refusal>
-    requires { (n ≤ 64) × (m ≤ 64) × (g < 2) × (length costs.now ≡ n * m) × (length names.now ≡ 64) × (length takers.old ≡ 64) }
-    ensures { StageAnswer costs.now n m gate names.now g (reply_of result) takers.old takers.new }
+    requires { Whole table × (length part.now ≡ 64) × (length takers.old ≡ 64) }
+    ensures { StageAnswer table.entry.costs.now table.entry.rows table.entry.columns gate part.now (reply_of result) takers.old takers.new }
 {
+    let m = table.columns;
+    let mut rows = [0usize; 64];
     let mut columns = [0usize; 64];
     let mut members = [0usize; 64];
     let mut picked = [64usize; 64];
     let mut own = [0.0f64; 4096];
-    name_columns(takers, m, g, &mut columns);
-    let c = assignment::table::count_named(&columns, m, g);
-    let r = assignment::table::gather(costs, n, m, names, &columns, g, &mut own, &mut members);
+    name_rows(part, table.rows, &mut rows);
+    name_columns(takers, m, &mut columns);
+    let c = assignment::table::count_named(&columns, m, 0);
+    let r = assignment::table::gather(
+        table.costs,
+        table.rows,
+        m,
+        &rows,
+        &columns,
+        0,
+        &mut own,
+        &mut members,
+    );
     solve_front(&own, r, c, gate, &mut picked)?;
-    scatter(&columns, m, g, &picked, r, &members, takers);
+    scatter(&columns, m, &picked, r, &members, takers);
     Ok(())
 }
 
 // The row that takes each column, into `takers`, which has 64 everywhere at first: recent rows first, then the others on what is left.
 // A leaf: the pairing stage lends a table of its own and takers that it has just made.
 pub fn pair_cascade(
-    costs: &[f64],
-    n: usize,
-    m: usize,
+    table: Table,
     gate: f64,
-    flags: &[bool; 64],
+    recent: &[bool; 64],
     takers: &mut [usize; 64],
 ) -> Result<(), Refusal>
-    requires { (n ≤ 64) × (m ≤ 64) × (length costs.now ≡ n * m) × (length flags.now ≡ 64) × (takers.old ≡ replicate 64 64) × (length takers.old ≡ 64) }
-    ensures { CascadeAnswer costs.now n m gate flags.now (reply_of result) takers.old takers.new }
+    requires { Whole table × (length recent.now ≡ 64) × (takers.old ≡ replicate 64 64) × (length takers.old ≡ 64) }
+    ensures { CascadeAnswer table.entry.costs.now table.entry.rows table.entry.columns gate recent.now (reply_of result) takers.old takers.new }
 {
-    let mut names = [0usize; 64];
-    name_rows(flags, n, &mut names);
-    pair_stage(costs, n, m, gate, &names, 0, takers)?;
-    pair_stage(costs, n, m, gate, &names, 1, takers)
+    pair_stage(table, gate, recent, takers)?;
+    let others = recent.map(|x| !x);
+    pair_stage(table, gate, &others, takers)
 }
 
 // The row that takes each column of the whole table, in one stage, into `takers`, which has 64 everywhere at first.
 // A leaf, as above. What a refusal leaves in `takers` is open but for their number; no caller reads it.
-pub fn pair_all(
-    costs: &[f64],
-    n: usize,
-    m: usize,
-    gate: f64,
-    takers: &mut [usize; 64],
-) -> Result<(), Refusal>
-    requires { (length costs.now ≡ n * m) × (takers.old ≡ replicate 64 64) }
-    ensures { (and_then (reply_of result) (λ _. given (takers_of m takers.new)) ≡ assigned gate (rows_of n m costs.now) m) × (length takers.new ≡ 64) }
+pub fn pair_all(table: Table, gate: f64, takers: &mut [usize; 64]) -> Result<(), Refusal>
+    requires { (length table.costs.now ≡ table.rows * table.columns) × (takers.old ≡ replicate 64 64) }
+    ensures { (and_then (reply_of result) (λ _. given (takers_of table.entry.columns takers.new)) ≡ assigned gate (rows_of table.entry.rows table.entry.columns table.entry.costs.now) table.entry.columns) × (length takers.new ≡ 64) }
 {
-    types::refusal::of_assignment(assignment::pair_columns(costs, n, m, gate, 0.0, takers))
+    assignment::pair_columns(table.costs, table.rows, table.columns, gate, 0.0, takers)?;
+    Ok(())
 }

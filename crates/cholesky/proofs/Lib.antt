@@ -1,1 +1,3 @@
+pub mod Columns
 pub mod Factors
+pub mod Found

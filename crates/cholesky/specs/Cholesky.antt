@@ -1,7 +1,7 @@
 -- The Cholesky factor of a symmetric matrix, for any size, each operation rounded once.
 -- 01, Matrix: "Cholesky reads the lower triangle, column by column, subtracting earlier columns in order. A pivot not greater than 0 (NaN included) fails.
 -- Entries below are divided by the pivot's root."
-use Rattle.std.specs.Prelude.{ℕ, zero, suc, ◌+◌, Bool, true, false, cond, List, [], ◌∷◌, ◌++◌, ltb, eqb, Float}
+use Rattle.std.specs.Prelude.{ℕ, zero, suc, ◌+◌, Bool, true, false, cond, [], ◌∷◌, ◌++◌, ltb, eqb, Float}
 use Rattle.std.specs.Float.{binary64}
 use Rattle.std.specs.Float.Ieee.{sub, mul, div, lt}
 use Rattle.number.specs.Reply.{Reply, refused, given, and_then}

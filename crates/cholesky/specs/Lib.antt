@@ -1,2 +1,3 @@
 pub mod Cholesky
+pub mod Definite
 pub mod Factor

@@ -1,27 +1,17 @@
-// The Cholesky factor of a matrix of two rows and of three, and the root of a pivot. Each answer is equal bit for bit to the definition of any size in specs/.
+// The Cholesky factor of a matrix of N rows, whether there is one, that is, whether the matrix counts as positive definite, and the root of a pivot. Each answer is equal bit for bit to the definition of any size in specs/.
 #![tactic(auto)]
 
-ghost use Rattle.std.specs.Prelude.{◌≡◌, List, [], ◌∷◌};
-ghost use Rattle.matrix.specs.Matrix.{nought};
-ghost use Rattle.cholesky.specs.Cholesky.{pivot_root, root_in, columns_from, cholesky};
-ghost use Rattle.cholesky.specs.Factor.{reply_of_pivot, reply_of_factor2, reply_of_factor3};
+ghost use Rattle.std.specs.Prelude.{◌≡◌, ◌<◌};
+ghost use Rattle.cholesky.specs.Cholesky.{pivot_root, root_in, remainder, column_entry, column_by, cholesky};
+ghost use Rattle.cholesky.specs.Factor.{reply_of_pivot, reply_of_factor};
+ghost use Rattle.cholesky.specs.Definite.{factorable, reply_of_found};
 
-// A lower triangle of two rows, and of three.
-#[derive(Clone, Copy)]
-pub struct Lower2 {
-    pub l00: f64,
-    pub l10: f64,
-    pub l11: f64,
-}
+use std::array::from_fn;
 
+// A lower triangle of N rows, as its columns, with +0 above the diagonal.
 #[derive(Clone, Copy)]
-pub struct Lower3 {
-    pub l00: f64,
-    pub l10: f64,
-    pub l20: f64,
-    pub l11: f64,
-    pub l21: f64,
-    pub l22: f64,
+pub struct Lower<const N: usize> {
+    pub columns: [[f64; N]; N],
 }
 
 // The root of p, where p is greater than 0, else +0: a number by itself is handed back without a store.
@@ -46,53 +36,77 @@ pub fn pivot_root(p: f64) -> Option<f64>
     if p > 0.0 { Some(d) } else { None }
 }
 
-// The factor's last column, behind the two before it.
-fn third3(a: [[f64; 3]; 3], l00: f64, l10: f64, l20: f64, l11: f64, l21: f64) -> Option<Lower3>
-    ensures { reply_of_factor3 result ≡ columns_from 1 3 a 2 ((l00 ∷ l10 ∷ l20 ∷ []) ∷ (nought ∷ l11 ∷ l21 ∷ []) ∷ []) }
+// Entry i, j of a, less what the columns before column j take away. Both matrices are lent, since a copy of them for each entry costs as much again.
+fn remainder<const N: usize>(a: &[[f64; N]; N], l: &[[f64; N]; N], i: usize, j: usize) -> f64
+    requires { (i < N) × (j < N) }
+    ensures { result ≡ remainder a.now l.now i j }
 {
-    let l22 = pivot_root(a[2][2] - l20 * l20 - l21 * l21)?;
-    Some(Lower3 {
-        l00,
-        l10,
-        l20,
-        l11,
-        l21,
-        l22,
-    })
+    let mut x = a[i][j];
+    for k in 0..j {
+        x -= l[k][i] * l[k][j];
+    }
+    x
 }
 
-// The factor's last two columns, behind the first.
-fn second3(a: [[f64; 3]; 3], l00: f64, l10: f64, l20: f64) -> Option<Lower3>
-    ensures { reply_of_factor3 result ≡ columns_from 2 3 a 1 ((l00 ∷ l10 ∷ l20 ∷ []) ∷ []) }
+// Entry i of column j, whose pivot has the root d.
+fn column_entry<const N: usize>(
+    a: &[[f64; N]; N],
+    l: &[[f64; N]; N],
+    j: usize,
+    d: f64,
+    i: usize,
+) -> f64
+    requires { (i < N) × (j < N) }
+    ensures { result ≡ column_entry a.now l.now j d i }
 {
-    let l11 = pivot_root(a[1][1] - l10 * l10)?;
-    let l21 = (a[2][1] - l20 * l10) / l11;
-    third3(a, l00, l10, l20, l11, l21)
+    if i < j {
+        0.0
+    } else if i == j {
+        d
+    } else {
+        remainder(a, l, i, j) / d
+    }
 }
 
-// The Cholesky factor of a.
-pub fn cholesky3(a: [[f64; 3]; 3]) -> Option<Lower3>
-    ensures { reply_of_factor3 result ≡ cholesky 3 a }
+// Column j, whose pivot has the root d.
+fn column<const N: usize>(a: &[[f64; N]; N], l: &[[f64; N]; N], j: usize, d: f64) -> [f64; N]
+    requires { j < N }
+    ensures { result ≡ column_by N a.now l.now j d }
 {
-    let l00 = pivot_root(a[0][0])?;
-    let l10 = a[1][0] / l00;
-    let l20 = a[2][0] / l00;
-    second3(a, l00, l10, l20)
+    from_fn(
+        |i| -> f64
+            requires { (i < N) × (j < N) }
+            ensures { result ≡ column_entry a.entry.now l.entry.now j d i }
+        { column_entry(a, l, j, d, i) },
+    )
 }
 
-// The factor's last column, behind the first.
-fn second2(a: [[f64; 2]; 2], l00: f64, l10: f64) -> Option<Lower2>
-    ensures { reply_of_factor2 result ≡ columns_from 1 2 a 1 ((l00 ∷ l10 ∷ []) ∷ []) }
+// The Cholesky factor of a, found column by column.
+pub fn cholesky<const N: usize>(a: [[f64; N]; N]) -> Option<Lower<N>>
+    ensures { reply_of_factor result ≡ cholesky N a.entry }
 {
-    let l11 = pivot_root(a[1][1] - l10 * l10)?;
-    Some(Lower2 { l00, l10, l11 })
+    let mut columns = [[0.0; N]; N];
+    for j in 0..N {
+        let d = pivot_root(remainder(&a, &columns, j, j))?;
+        columns[j] = column(&a, &columns, j, d);
+    }
+    Some(Lower { columns })
 }
 
-// The Cholesky factor of a.
-pub fn cholesky2(a: [[f64; 2]; 2]) -> Option<Lower2>
-    ensures { reply_of_factor2 result ≡ cholesky 2 a }
+// Whether a has a factor. The last column isn't asked for, since none reads it, and so its root isn't either.
+pub fn has_factor<const N: usize>(a: [[f64; N]; N]) -> bool
+    ensures { reply_of_found result ≡ factorable N a.entry }
 {
-    let l00 = pivot_root(a[0][0])?;
-    let l10 = a[1][0] / l00;
-    second2(a, l00, l10)
+    let mut l = [[0.0; N]; N];
+    for j in 0..N {
+        let pivot = remainder(&a, &l, j, j);
+        if pivot > 0.0 {
+            if j + 1 < N {
+                l[j] = column(&a, &l, j, root_or_zero(pivot));
+            }
+        } else {
+            return false;
+        }
+    }
+    true
 }

@@ -1,4 +1,5 @@
 // What a matrix a makes of a covariance p, (a p) times the transpose of a, by value: each entry is summed from its first term to its last.
+// That an index lies below a size is a clause of each function that takes one: no type says it of the number of a const parameter.
 #![tactic(auto)]
 
 ghost use Rattle.std.specs.Prelude.{◌≡◌, ◌<◌};

@@ -1,6 +1,6 @@
 -- What a pair costs by the factor that is held, and what of the detections the table reads. Assumes nothing.
 use Rattle.std.specs.Prelude.{Option}
-use Rattle.cholesky.specs.declared.Lower3.{Lower3}
+use Rattle.cholesky.specs.declared.Lower.{Lower}
 use mathlib.Core.Path.{◌≡◌, refl, sym, ap, ◌∙◌, subst}
 use mathlib.Core.Bool.{Bool, true, false}
 use mathlib.Core.List.{List, [], ◌∷◌, map}
@@ -12,14 +12,16 @@ use lib.Seq.{sets, take_all}
 use Rattle.number.specs.Reply.{Reply, given, and_then}
 use Rattle.matrix.specs.Matrix.{Vector, Matrix}
 use Rattle.lists.specs.Each.{each}
-use Rattle.cholesky.specs.Factor.{reply_of_factor3}
+use Rattle.cholesky.specs.Factor.{reply_of_factor}
 use Rattle.filter.specs.Filter.{factor_from, distance_with}
 use Rattle.filter.proofs.Split.{distance_factored}
 use Rattle.detections.specs.declared.Detection.{Detection}
 use Rattle.detections.specs.declared.pairs.PairConfig.{PairConfig}
 use Rattle.detections.specs.declared.pairs.Target.{Target}
 use Rattle.detections.specs.declared.pairs.Rule.TheVariants.{Classes}
-use Rattle.detections.specs.Pairs.{Ruling, forbidden, compatible, measured, ruled, verdict_of}
+use Rattle.detections.specs.declared.pairs.Ruling.{Ruling}
+use Rattle.detections.specs.declared.pairs.Ruling.TheVariants.{Forbidden}
+use Rattle.detections.specs.Pairs.{compatible, measured, ruled, verdict_of}
 use Rattle.detections.proofs.Rules.{classes_forbid, distance_decides}
 use Rattle.calls.specs.Pairing.{cost_of}
 use Rattle.pairing.specs.declared.Row.{Row}
@@ -39,7 +41,7 @@ module _ (c : PairConfig) (t : Target) (z : Vector) (seen : Option ℕ) where
   unfolding priced_by
   priced_near factor h v e = ap costs (distance_decides c t.class_label t.class_prior seen (distance_with t.expected z factor) h e)
 
-  pub priced_apart : (factor : Reply Matrix) → compatible t.class_label seen ≡ false → costs (given (forbidden Classes)) ≡ priced_by c t z seen factor
+  pub priced_apart : (factor : Reply Matrix) → compatible t.class_label seen ≡ false → costs (given (Forbidden Classes)) ≡ priced_by c t z seen factor
   unfolding priced_by
   priced_apart factor h = ap costs (classes_forbid c t.class_label t.class_prior seen (distance_with t.expected z factor) h)
 
@@ -50,17 +52,17 @@ module _ (c : PairConfig) (t : Target) (z : Vector) (seen : Option ℕ) where
 
   module _ (noises : List Vector) (k j : ℕ) (same : get_or noises k [] ≡ get_or noises j []) where
     -- by one that was just worked out
-    pub priced_new : (f : Option Lower3) → reply_of_factor3 f ≡ factor_from t.expected (get_or noises j []) → priced_by c t z seen (reply_of_factor3 f) ≡ price_reply c t (sight z (get_or noises j []) seen)
+    pub priced_new : (f : Option (Lower 3)) → reply_of_factor f ≡ factor_from t.expected (get_or noises j []) → priced_by c t z seen (reply_of_factor f) ≡ price_reply c t (sight z (get_or noises j []) seen)
     priced_new f e = ap (priced_by c t z seen) e ∙ priced_own (get_or noises j [])
 
     -- by the one that is held, where it serves
-    pub priced_held : (f : Option Lower3) (held : ℕ) → (held < 64 → reply_of_factor3 f ≡ factor_from t.expected (get_or noises held [])) → k < 64 → (compatible t.class_label seen ≡ true → held ≡ k)
-        → priced_by c t z seen (reply_of_factor3 f) ≡ price_reply c t (sight z (get_or noises j []) seen)
+    pub priced_held : (f : Option (Lower 3)) (held : ℕ) → (held < 64 → reply_of_factor f ≡ factor_from t.expected (get_or noises held [])) → k < 64 → (compatible t.class_label seen ≡ true → held ≡ k)
+        → priced_by c t z seen (reply_of_factor f) ≡ price_reply c t (sight z (get_or noises j []) seen)
     priced_held f held s l w = by (compatible t.class_label seen) refl
       where
-        by : (b : Bool) → compatible t.class_label seen ≡ b → priced_by c t z seen (reply_of_factor3 f) ≡ price_reply c t (sight z (get_or noises j []) seen)
+        by : (b : Bool) → compatible t.class_label seen ≡ b → priced_by c t z seen (reply_of_factor f) ≡ price_reply c t (sight z (get_or noises j []) seen)
         by true h = let e = w h in priced_new f (s (rw e l) ∙ ap (λ (i : ℕ). factor_from t.expected (get_or noises i [])) e ∙ ap (factor_from t.expected) same)
-        by false h = sym (priced_apart (reply_of_factor3 f) h) ∙ priced_apart (factor_from t.expected (get_or noises j [])) h ∙ priced_own (get_or noises j [])
+        by false h = sym (priced_apart (reply_of_factor f) h) ∙ priced_apart (factor_from t.expected (get_or noises j [])) h ∙ priced_own (get_or noises j [])
 
 -- ---- a row for all that the arrays hold
 

@@ -1,8 +1,8 @@
 -- The cost table in one array. 01, Assignment: "The cost table is lent as 64-bit floats, row after row".
 use Rattle.types.specs.declared.refusal.Refusal.{Refusal}
-use Rattle.std.specs.Prelude.{◌≡◌, List, [], ◌∷◌, ◌++◌, Float, Err, Ok, Option, Result, ℕ}
+use Rattle.std.specs.Prelude.{◌≡◌, List, [], ◌∷◌, ◌++◌, Float, Option, Result, ℕ}
 use Rattle.std.proofs.lemmas.List.Edits.{sets}
-use Rattle.number.specs.Reply.{Reply, refused, given, and_then}
+use Rattle.number.specs.Reply.{Reply, refused, given, and_then, reply_by}
 use Rattle.matrix.specs.Matrix.{Vector, Matrix}
 use Rattle.filter.specs.Filter.{distance_with}
 use Rattle.detections.specs.declared.Detection.{Detection}
@@ -20,8 +20,7 @@ use Rattle.pairing.specs.Laid.{front}
 
 -- the enum in 01's terms
 abbrev pub reply_of_entry : Result Float Refusal → Reply Float
-reply_of_entry (Ok c) = given c
-reply_of_entry (Err why) = refused (number_of why)
+reply_of_entry r = reply_by number_of r
 
 -- the cost of a pair by a factor of S
 unfoldable pub priced_by : PairConfig → Target → Vector → Option ℕ → Reply Matrix → Reply Float

@@ -3,8 +3,8 @@
 
 ghost use Rattle.std.specs.Prelude.{◌≡◌, true, false, ◌+◌, ◌≤◌, take};
 ghost use Rattle.number.specs.Reply.{given, and_then};
-ghost use Rattle.cholesky.specs.Factor.{reply_of_factor3};
-ghost use Rattle.detections.specs.Pairs.{compatible, reply_of_verdict};
+ghost use Rattle.cholesky.specs.Factor.{reply_of_factor};
+ghost use Rattle.detections.specs.Pairs.{compatible};
 ghost use Rattle.types.specs.Refusals.{reply_of};
 ghost use Rattle.calls.specs.Pairing.{cost_of};
 ghost use Rattle.pairing.specs.Laid.{Laid};
@@ -13,19 +13,18 @@ ghost use Rattle.sightings.specs.Sights.{sights_in, Kin};
 ghost use Rattle.cost_table.specs.Table.{reply_of_entry, priced_by, Tabled};
 
 use detections::Detection;
-use detections::pairs::{PairConfig, Rule, Target, Verdict};
+use detections::pairs::{PairConfig, Rule, Ruling, Target};
 use pairing::Row;
 use types::refusal::Refusal;
 use types::{MAX_OBSERVATIONS, MAX_TRACKS};
 
 // A forbidden pair costs +infinity.
-fn entry_of(verdict: Verdict) -> Result<f64, Refusal>
-    ensures { reply_of_entry result ≡ and_then (reply_of_verdict verdict) (λ v. given (cost_of v)) }
+fn cost_of(ruling: Ruling) -> f64
+    ensures { result ≡ cost_of ruling }
 {
-    match verdict {
-        Verdict::Allowed(cost) => Ok(cost),
-        Verdict::Forbidden(_) => Ok(f64::from_bits(0x7ff0_0000_0000_0000)),
-        Verdict::Refused(why) => Err(types::refusal::of_matrix(why)),
+    match ruling {
+        Ruling::Allowed(cost) => cost,
+        Ruling::Forbidden(_) => f64::from_bits(0x7ff0_0000_0000_0000),
     }
 }
 
@@ -43,22 +42,20 @@ fn is_due(class: Option<u32>, seen: Option<u32>, held: usize, k: usize) -> bool
 // The cost of the pair of a track and a detection that is seen at z with a class, by the factor of S.
 fn price(
     t: Target,
-    factor: Option<cholesky::Lower3>,
+    factor: Option<cholesky::Lower<3>>,
     z: [f64; 3],
     seen: Option<u32>,
     rule: PairConfig,
 ) -> Result<f64, Refusal>
-    ensures { reply_of_entry result ≡ priced_by rule t z seen (reply_of_factor3 factor) }
+    ensures { reply_of_entry result ≡ priced_by rule t z seen (reply_of_factor factor) }
 {
-    let expected = t.expected;
-    let class = t.class_label;
-    let prior = t.class_prior;
-    if detections::pairs::classes_compatible(class, seen) {
-        let distance = filter::distance_by(expected, z, factor);
-        entry_of(detections::pairs::verdict_at(distance, prior, seen, rule))
-    } else {
-        entry_of(Verdict::Forbidden(Rule::Classes))
+    if !detections::pairs::classes_compatible(t.class_label, seen) {
+        return Ok(cost_of(Ruling::Forbidden(Rule::Classes)));
     }
+    let expected = t.expected;
+    let distance = filter::distance_by(expected, z, factor);
+    let ruling = detections::pairs::verdict_at(distance, t.class_prior, seen, rule)?;
+    Ok(cost_of(ruling))
 }
 
 // The costs of one track's pairs with the first m detections, from `at` on. The first refusal decides.

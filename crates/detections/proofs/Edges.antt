@@ -12,7 +12,8 @@ use borrow.Author.Tests.{ltb-true, le-ltb, eqb-true, eq-eqb, ne_eqb}
 use Rattle.number.proofs.Zeros.{impossible}
 use Rattle.detections.specs.declared.pairs.PairConfig.{PairConfig}
 use Rattle.detections.specs.declared.pairs.Rule.TheVariants.{Gate}
-use Rattle.detections.specs.Pairs.{forbidden, penalized, priced, gated}
+use Rattle.detections.specs.declared.pairs.Ruling.TheVariants.{Forbidden}
+use Rattle.detections.specs.Pairs.{penalized, priced, gated}
 use Rattle.detections.proofs.Rules.{within_gate, beyond_gate}
 
 -- ---- the order of doubles
@@ -65,5 +66,5 @@ module _ (c : PairConfig) (prior : Option ClassPrior) (seen : Option ℕ) (d : F
   pub gate_met : finite d ≡ true → c.gate_squared_mahalanobis ≡ d → gated c prior seen d ≡ priced (penalized c.class_prior_penalty prior seen d)
   gate_met f e = sym (within_gate c prior seen d (ap (le d) e ∙ le_itself d f))
 
-  pub gate_passed : lt c.gate_squared_mahalanobis d ≡ true → gated c prior seen d ≡ forbidden Gate
+  pub gate_passed : lt c.gate_squared_mahalanobis d ≡ true → gated c prior seen d ≡ Forbidden Gate
   gate_passed p = sym (beyond_gate c prior seen d (past_not_le c.gate_squared_mahalanobis d p))

@@ -8,14 +8,16 @@ use lib.Ieee.Scale.{finite}
 use Rattle.number.specs.Reply.{Reply, given}
 use Rattle.detections.specs.declared.pairs.PairConfig.{PairConfig}
 use Rattle.detections.specs.declared.pairs.Rule.TheVariants.{Classes, Gate, Cost}
-use Rattle.detections.specs.Pairs.{Ruling, forbidden, allowed, compatible, penalized, priced, gated, measured, ruled}
+use Rattle.detections.specs.declared.pairs.Ruling.{Ruling}
+use Rattle.detections.specs.declared.pairs.Ruling.TheVariants.{Allowed, Forbidden}
+use Rattle.detections.specs.Pairs.{compatible, penalized, priced, gated, measured, ruled}
 
 module _ (cost : Float) where
-  pub cost_finite : finite cost ≡ true → allowed cost ≡ priced cost
+  pub cost_finite : finite cost ≡ true → Allowed cost ≡ priced cost
   unfolding priced
   cost_finite f = rw f
 
-  pub cost_infinite : finite cost ≡ false → forbidden Cost ≡ priced cost
+  pub cost_infinite : finite cost ≡ false → Forbidden Cost ≡ priced cost
   unfolding priced
   cost_infinite f = rw f
 
@@ -24,12 +26,12 @@ module _ (c : PairConfig) (prior : Option ClassPrior) (seen : Option ℕ) (d : F
   unfolding gated
   within_gate t = rw t
 
-  pub beyond_gate : le d c.gate_squared_mahalanobis ≡ false → forbidden Gate ≡ gated c prior seen d
+  pub beyond_gate : le d c.gate_squared_mahalanobis ≡ false → Forbidden Gate ≡ gated c prior seen d
   unfolding gated
   beyond_gate t = rw t
 
 module _ (c : PairConfig) (class : Option ℕ) (prior : Option ClassPrior) (seen : Option ℕ) (distance : Reply Float) where
-  pub classes_forbid : compatible class seen ≡ false → given (forbidden Classes) ≡ ruled c class prior seen distance
+  pub classes_forbid : compatible class seen ≡ false → given (Forbidden Classes) ≡ ruled c class prior seen distance
   unfolding ruled
   classes_forbid f = rw f
 

@@ -4,22 +4,15 @@ use Rattle.std.specs.Prelude.{Bool, true, cond, eqb, Float, None, Option, Some, 
 use Rattle.std.specs.Float.{binary64}
 use Rattle.std.specs.Float.Ieee.{add, mul, le}
 use Rattle.std.specs.Float.Ieee.Scale.{finite}
-use Rattle.number.specs.Reply.{Reply, refused, given, and_then}
-use Rattle.math.specs.Refusing.{number_of}
+use Rattle.number.specs.Reply.{Reply, given, and_then}
 use Rattle.filter.specs.declared.KalmanFilter.{KalmanFilter}
 use Rattle.filter.specs.Filter.{expected_of, distance_from}
 use Rattle.detections.specs.declared.Detection.{Detection}
 use Rattle.detections.specs.declared.pairs.Target.{Target}
 use Rattle.detections.specs.declared.pairs.PairConfig.{PairConfig}
-use Rattle.detections.specs.declared.pairs.Rule.{Rule}
 use Rattle.detections.specs.declared.pairs.Rule.TheVariants.{Classes, Gate, Cost}
-use Rattle.detections.specs.declared.pairs.Verdict.{Verdict}
-use Rattle.detections.specs.declared.pairs.Verdict.TheVariants as verdict
-
--- what the rules say of a pair: the first that forbids it, or its cost
-pub data Ruling : Type 0 where
-  forbidden : Rule → Ruling
-  allowed : Float → Ruling
+use Rattle.detections.specs.declared.pairs.Ruling.{Ruling}
+use Rattle.detections.specs.declared.pairs.Ruling.TheVariants.{Allowed, Forbidden}
 
 -- "classes agree or one is absent"
 abbrev pub compatible : Option ℕ → Option ℕ → Bool
@@ -35,11 +28,11 @@ penalized penalty (Some prior) (Some x) cost = cond (eqb prior.label x) cost (ad
 
 -- "and the cost with prior penalty stays finite"
 unfoldable pub priced : Float → Ruling
-priced cost = cond (finite cost) (allowed cost) (forbidden Cost)
+priced cost = cond (finite cost) (Allowed cost) (Forbidden Cost)
 
 -- "the squared distance is at most the gate"
 unfoldable pub gated : PairConfig → Option ClassPrior → Option ℕ → Float → Ruling
-gated c prior seen d = cond (le d c.gate_squared_mahalanobis) (priced (penalized c.class_prior_penalty prior seen d)) (forbidden Gate)
+gated c prior seen d = cond (le d c.gate_squared_mahalanobis) (priced (penalized c.class_prior_penalty prior seen d)) (Forbidden Gate)
 
 -- the rules behind that of the classes, for a squared distance that is a reply
 abbrev pub measured : PairConfig → Option ClassPrior → Option ℕ → Reply Float → Reply Ruling
@@ -47,7 +40,7 @@ measured c prior seen distance = and_then distance (λ d. given (gated c prior s
 
 -- the whole rule. 01, Batch: "distances of class-compatible pairs", so a pair that its classes forbid is never refused.
 unfoldable pub ruled : PairConfig → Option ℕ → Option ClassPrior → Option ℕ → Reply Float → Reply Ruling
-ruled c class prior seen distance = cond (compatible class seen) (measured c prior seen distance) (given (forbidden Classes))
+ruled c class prior seen distance = cond (compatible class seen) (measured c prior seen distance) (given (Forbidden Classes))
 
 -- what of a track with the filter f its pairs depend on
 abbrev pub target_of : KalmanFilter → Option ℕ → Option ClassPrior → Target
@@ -55,10 +48,3 @@ target_of f class prior = record { expected = expected_of f; class_label = class
 
 unfoldable pub verdict_of : PairConfig → Target → Detection → Reply Ruling
 verdict_of c t d = ruled c t.class_label t.class_prior d.class_label (distance_from t.expected d.position d.covariance)
-
--- ---- the answer
-
-abbrev pub reply_of_verdict : Verdict → Reply Ruling
-reply_of_verdict (verdict.Allowed cost) = given (allowed cost)
-reply_of_verdict (verdict.Forbidden rule) = given (forbidden rule)
-reply_of_verdict (verdict.Refused e) = refused (number_of e)

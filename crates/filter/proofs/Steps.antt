@@ -1,25 +1,17 @@
 -- What the tests on the way of a call say of its definition, whatever the sizes. Assumes nothing.
-use Rattle.std.specs.Prelude.{Ok}
-use mathlib.Core.Path.{◌≡◌, refl, sym, ap, subst}
-use mathlib.Core.Bool.{true, false}
+use mathlib.Core.Path.{◌≡◌, refl, ap, ◌∙◌}
+use mathlib.Core.Bool.{Bool, true, false}
 use Prim.Native.Nat.{ℕ}
-use Rattle.number.specs.Reply.{Reply, refused, given, and_then, left_in}
-use Rattle.matrix.specs.Matrix.{Vector, Matrix}
+use Rattle.number.specs.Reply.{Reply, refused, given, and_then, refuse_unless}
+use Rattle.matrix.specs.Matrix.{Vector, Matrix, times_vector, product, transposed, congruence, plus_vector, plus, minus, symmetrized, identity}
+use Rattle.matrix.specs.Flat.{rows_of}
+use Rattle.solving.specs.Solving.{gain_by}
 use Rattle.finite.specs.Finite.{finite_vector, finite_matrix}
 use Rattle.cholesky.specs.Cholesky.{cholesky}
 use Rattle.math.specs.Linalg.{validated}
 use Rattle.filter.specs.declared.KalmanFilter.{KalmanFilter}
-use Rattle.filter.specs.declared.Step.{Step}
-use Rattle.filter.specs.Kalman.{Estimate, finished, moved, predict_reply, corrected, gained, measured_with, measured_by, checked}
-use Rattle.filter.specs.Filter.{filter_of, stored, Answer}
-
--- ---- answers
-
-pub answers : {before : KalmanFilter} {s : Step} {r reply : Reply KalmanFilter} → Answer before s r → r ≡ reply → Answer before s reply
-answers {before} {s} a e = subst (λ reply. Answer before s reply) e a
-
-pub done : {before after : KalmanFilter} {reply : Reply KalmanFilter} → reply ≡ given after → Answer before (record { outcome = Ok tt; filter = after }) reply
-done {before} e = record { is = sym e; left = ap (λ r. left_in r before) (sym e) }
+use Rattle.filter.specs.Kalman.{Estimate, estimate, gain_reply, finished, moved, predict_reply, corrected, gained, measured_with, measured_by, checked}
+use Rattle.filter.specs.Filter.{filter_of, estimate_of, stored}
 
 -- ---- an estimate
 
@@ -69,15 +61,41 @@ module _ {A : Type 0} (k : ℕ) (z : Vector) (r : Matrix) (reply : Reply A) wher
 -- ---- measurement
 
 module _ (k n : ℕ) (u : Vector) (h r : Matrix) (e : Estimate) where
-  pub finite_gain : (gain : Matrix) → finite_matrix n k gain ≡ true → finished n (corrected k n u h r e gain) ≡ gained k n u h r e gain
-  unfolding gained
-  finite_gain gain t = rw t
-
-  pub infinite_gain : (gain : Matrix) → finite_matrix n k gain ≡ false → refused 9 ≡ gained k n u h r e gain
-  unfolding gained
-  infinite_gain gain t = rw t
-
   -- by the factor of s, found or not
   pub by_factor : (s : Matrix) (x : Reply Matrix) → x ≡ cholesky k s → and_then x (λ l. measured_with k n u h r e l) ≡ measured_by k n u s h r e
   unfolding measured_by
   by_factor s x t = ap (λ (y : Reply Matrix). and_then y (λ l. measured_with k n u h r e l)) t
+
+-- the gain first, then the correction by it
+module _ (k : ℕ) (u : Vector) (h r : Matrix) (f : KalmanFilter) (factor : Reply Matrix) where
+  abbrev by_gain : Reply Matrix → Reply Estimate
+  by_gain gain = and_then gain (λ g. finished 6 (corrected k 6 u h r (estimate_of f) g))
+
+  abbrev gain_from : Matrix → Reply Matrix
+  gain_from cross = and_then factor (λ l. gain_reply k 6 (gain_by k 6 l cross))
+
+  gain_of_factor : by_gain (gain_from (product 6 6 k (rows_of 6 6 f.covariance) (transposed k 6 h))) ≡ and_then factor (λ l. measured_with k 6 u h r (estimate_of f) l)
+  unfolding measured_with gained
+  gain_of_factor = whole factor
+    where
+      tested : (g : Matrix) (b : Bool) → by_gain (refuse_unless b 9 (given g)) ≡ refuse_unless b 9 (finished 6 (corrected k 6 u h r (estimate_of f) g))
+      tested g true = refl
+      tested g false = refl
+
+      whole : (x : Reply Matrix) → by_gain (and_then x (λ l. gain_reply k 6 (gain_by k 6 l (product 6 6 k (rows_of 6 6 f.covariance) (transposed k 6 h))))) ≡ and_then x (λ l. measured_with k 6 u h r (estimate_of f) l)
+      whole (given l) = tested _ _
+      whole (refused m) = refl
+
+  module _ {cross p : Matrix} (c : cross ≡ product 6 6 k p (transposed k 6 h)) (q : p ≡ rows_of 6 6 f.covariance) where
+    seen : gain_from cross ≡ gain_from (product 6 6 k (rows_of 6 6 f.covariance) (transposed k 6 h))
+    seen = ap gain_from (c ∙ ap (λ m. product 6 6 k m (transposed k 6 h)) q)
+
+    pub gain_taken : {g rest : Matrix} → given g ≡ gain_from cross → rest ≡ minus 6 6 (identity 6) (product 6 k 6 g h) → stored (finished 6 (estimate (plus_vector 6 f.state (times_vector 6 k g u)) (symmetrized 6 (plus 6 6 (congruence 6 6 rest p) (congruence 6 k g r))))) ≡ stored (and_then factor (λ l. measured_with k 6 u h r (estimate_of f) l))
+    unfolding corrected
+    gain_taken {g} e t =
+        (λ i. stored (finished 6 (estimate (plus_vector 6 f.state (times_vector 6 k g u)) (symmetrized 6 (plus 6 6 (congruence 6 6 (t i) (q i)) (congruence 6 k g r))))))
+        ∙ ap (λ x. stored (by_gain x)) (e ∙ seen)
+        ∙ ap stored gain_of_factor
+
+    pub gain_stops : {m : ℕ} → refused m ≡ gain_from cross → refused m ≡ stored (and_then factor (λ l. measured_with k 6 u h r (estimate_of f) l))
+    gain_stops {m} e = stored_refused m ∙ ap (λ x. stored (by_gain x)) (e ∙ seen) ∙ ap stored gain_of_factor

@@ -1,9 +1,9 @@
 -- The filter of a track: a state of 6 and a covariance of 36 numbers, row after row, under Kalman's equations.
 use Rattle.math.specs.declared.linalg.Refusal.{Refusal}
-use Rattle.std.specs.Prelude.{◌≡◌, Float, Err, Ok, Result}
+use Rattle.std.specs.Prelude.{Float, Result}
 use Rattle.std.specs.Float.{binary64}
 use Rattle.std.specs.Float.Ieee.{mul}
-use Rattle.number.specs.Reply.{Reply, refused, given, and_then, left_in}
+use Rattle.number.specs.Reply.{Reply, given, and_then, reply_by}
 use Rattle.matrix.specs.Matrix.{Vector, Matrix, times_vector, congruence, plus, minus_vector, symmetrized}
 use Rattle.matrix.specs.Flat.{rows_of, flat_of}
 use Rattle.math.specs.Refusing.{number_of}
@@ -12,7 +12,6 @@ use Rattle.math.specs.Linalg.{distance_by, squared_distance}
 use Rattle.models.specs.Models.{transition, noise, selection, isotropic}
 use Rattle.filter.specs.declared.KalmanFilter.{KalmanFilter}
 use Rattle.filter.specs.declared.Expected.{Expected}
-use Rattle.filter.specs.declared.Step.{Step}
 use Rattle.filter.specs.Kalman.{Estimate, estimate, predict_reply, measured_by, measured, checked, update_reply, distance_of}
 
 -- ---- what a filter holds
@@ -82,14 +81,5 @@ updated_from m z r f = stored (measured_by 3 6 (innovation_from m z) (spread_fro
 
 -- ---- the answers
 
-abbrev pub reply_of_step : Step → Reply KalmanFilter
-reply_of_step s = of s.outcome
-  where
-    of : Result (Unit {0}) Refusal → Reply KalmanFilter
-    of (Ok _) = given s.filter
-    of (Err e) = refused (number_of e)
-
--- the reply, and the filter that the call leaves
-pub record Answer (before : KalmanFilter) (s : Step) (reply : Reply KalmanFilter) : Type 0 where
-  pub is : reply_of_step s ≡ reply
-  pub left : s.filter ≡ left_in reply before
+abbrev pub reply_of_filter : Result KalmanFilter Refusal → Reply KalmanFilter
+reply_of_filter r = reply_by number_of r

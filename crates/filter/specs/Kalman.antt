@@ -47,6 +47,10 @@ corrected k n u h r e gain =
     (plus_vector n e.state (times_vector n k gain u))
     (symmetrized n (plus n n (congruence n n (minus n n (identity n) (product n k n gain h)) e.covariance) (congruence n k gain r)))
 
+-- a gain, where it is finite
+abbrev pub gain_reply : ℕ → ℕ → Matrix → Reply Matrix
+gain_reply k n gain = refuse_unless (finite_matrix n k gain) 9 (given gain)
+
 unfoldable pub gained : ℕ → ℕ → Vector → Matrix → Matrix → Estimate → Matrix → Reply Estimate
 gained k n u h r e gain = refuse_unless (finite_matrix n k gain) 9 (finished n (corrected k n u h r e gain))
 

@@ -1,5 +1,6 @@
 // Whether vectors and matrices hold no NaN and no infinity. Each answer is equal to the definition of any size in specs/.
 // A sum is finite only where each of its terms is, and one test of a sum is quicker than one for each entry. It is made column by column, so that the compiler adds two columns at a time.
+// That an index lies below a size is a clause of each function that takes one: no type says it of the number of a const parameter.
 #![tactic(auto)]
 
 ghost use Rattle.std.specs.Prelude.{◌≡◌, ◌<◌};

@@ -22,7 +22,7 @@ fn row<const P: usize, const L: usize>(v: [f64; L], i: usize) -> [f64; P]
 }
 
 // The matrix of N rows that v holds, row after row.
-pub fn rows<const N: usize, const P: usize, const L: usize>(v: [f64; L]) -> [[f64; P]; N]
+fn rows<const N: usize, const P: usize, const L: usize>(v: [f64; L]) -> [[f64; P]; N]
     requires { L ≡ N * P }
     ensures { result ≡ rows_of N P v.entry }
 {
@@ -35,11 +35,36 @@ pub fn rows<const N: usize, const P: usize, const L: usize>(v: [f64; L]) -> [[f6
 }
 
 // The rows of a, one after the other.
-pub fn flat<const N: usize, const P: usize, const L: usize>(a: [[f64; P]; N]) -> [f64; L]
+fn flat<const N: usize, const P: usize, const L: usize>(a: [[f64; P]; N]) -> [f64; L]
     requires { L ≡ N * P }
     ensures { result ≡ flat_of N P a.entry }
 {
     let mut v = [0.0; L];
     v.copy_from_slice(a.as_flattened());
     v
+}
+
+// The same of three rows and of six. They have names of their own since they ask nothing, where the function of any size asks for the product.
+pub fn rows3(v: [f64; 9]) -> [[f64; 3]; 3]
+    ensures { result ≡ rows_of 3 3 v }
+{
+    rows(v)
+}
+
+pub fn rows6(v: [f64; 36]) -> [[f64; 6]; 6]
+    ensures { result ≡ rows_of 6 6 v }
+{
+    rows(v)
+}
+
+pub fn flat3(a: [[f64; 3]; 3]) -> [f64; 9]
+    ensures { result ≡ flat_of 3 3 a }
+{
+    flat(a)
+}
+
+pub fn flat6(a: [[f64; 6]; 6]) -> [f64; 36]
+    ensures { result ≡ flat_of 6 6 a }
+{
+    flat(a)
 }

@@ -64,9 +64,6 @@ module _ (s : List ℕ) (i : ℕ) where
       let n : length (drop (suc i) s) ≡ length s - suc i = length-drop (suc i) s in
       rw (add-one, drop-cons s i 0, e) (omega arith)
 
-  pub end_past : length s ≤ i → word_end s i ≡ i
-  end_past h = rw (drop_of_length-le s h) (omega arith)
-
 -- what callers use of it
 pub record Passed (s : List ℕ) (from r : ℕ) : Type 0 where
   pub past : from ≤ r

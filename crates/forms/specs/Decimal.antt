@@ -1,6 +1,6 @@
 -- Decimal numbers, as a word's bytes. 01, Line of the program `assign`: "decimal −1,000,000 to 1,000,000, no leading zero, no `-0`".
-use Rattle.std.specs.Prelude.{Bool, true, false, cond, ◌&&◌, List, [], ◌∷◌, ℕ, zero, suc, ◌+◌, ◌-◌, ◌*◌, eqb, leb, ℤ, pos, negsuc, Option as Answer, Some, None, Option}
-use Rattle.number.specs.Reply.{Reply, refused, given}
+use Rattle.std.specs.Prelude.{Bool, true, false, cond, ◌&&◌, List, [], ◌∷◌, ℕ, zero, suc, ◌+◌, ◌-◌, ◌*◌, eqb, leb, ℤ, pos, negsuc, Option, Some, None}
+use Rattle.number.specs.Reply.{Reply, refused, given, reply_or}
 
 abbrev pub digit : ℕ → Bool
 digit b = leb 48 b && leb b 57
@@ -37,12 +37,10 @@ decimal_of (b ∷ l) = cond (eqb b 45) (minus (natural_of l)) (plus (natural_of 
 
 -- ---- as replies. 01: "13 for .. a number out of range"
 abbrev pub natural_reply : Option ℕ → Reply ℕ
-natural_reply None = refused 13
-natural_reply (Some n) = given n
+natural_reply o = reply_or 13 o
 
-abbrev pub reply_of_natural : Answer ℕ → Reply ℕ
-reply_of_natural (Some n) = given n
-reply_of_natural None = refused 13
+abbrev pub reply_of_natural : Option ℕ → Reply ℕ
+reply_of_natural o = reply_or 13 o
 
 -- whether it is below zero, and its size
 abbrev pub signed_reply : ℤ → Reply (Bool × ℕ)
@@ -53,6 +51,6 @@ abbrev pub decimal_reply : Option ℤ → Reply (Bool × ℕ)
 decimal_reply None = refused 13
 decimal_reply (Some z) = signed_reply z
 
-abbrev pub reply_of_decimal : Answer ℤ → Reply (Bool × ℕ)
+abbrev pub reply_of_decimal : Option ℤ → Reply (Bool × ℕ)
 reply_of_decimal (Some z) = signed_reply z
 reply_of_decimal None = refused 13

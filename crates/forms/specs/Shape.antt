@@ -1,8 +1,8 @@
 -- The shape of a line: what stands behind a form at the head of the bytes, or nothing where none stands there.
 -- 01, Line of the program `assign`: "A form is a word or brackets round forms, at most 4 deep, single blanks between forms; brackets may be empty.
 -- A word is one or more bytes other than blank, newline and brackets."
-use Rattle.std.specs.Prelude.{Bool, cond, not, ◌&&◌, List, [], ◌∷◌, ℕ, zero, suc, ◌+◌, ◌-◌, eqb, length, drop, Option as Answer, Some, None, Option}
-use Rattle.number.specs.Reply.{Reply, refused, given}
+use Rattle.std.specs.Prelude.{Bool, cond, not, ◌&&◌, List, [], ◌∷◌, ℕ, zero, suc, ◌+◌, ◌-◌, eqb, length, drop, Option, Some, None}
+use Rattle.number.specs.Reply.{Reply, refused, given, reply_or}
 
 -- neither blank, newline nor bracket
 abbrev pub word_byte : ℕ → Bool
@@ -55,6 +55,5 @@ abbrev pub place_reply : List ℕ → Option (List ℕ) → Reply ℕ
 place_reply s None = refused 13
 place_reply s (Some l) = given (length s - length l)
 
-abbrev pub reply_of_read : Answer ℕ → Reply ℕ
-reply_of_read (Some e) = given e
-reply_of_read None = refused 13
+abbrev pub reply_of_read : Option ℕ → Reply ℕ
+reply_of_read o = reply_or 13 o

@@ -19,7 +19,8 @@ use Rattle.lists.proofs.Masks.{struck_map, struck_length, count_left, zipped_lef
 use Rattle.kuhn_munkres.proofs.Takers.{taken_left}
 use Rattle.kuhn_munkres.proofs.FarColumns.{NoCost}
 use Rattle.detections.specs.declared.Detection.{Detection}
-use Rattle.detections.specs.Pairs.{Ruling, forbidden, allowed}
+use Rattle.detections.specs.declared.pairs.Ruling.{Ruling}
+use Rattle.detections.specs.declared.pairs.Ruling.TheVariants.{Allowed, Forbidden}
 use Rattle.detections.specs.Far.{MayPair, Far}
 use Rattle.types.specs.declared.track.Track3D.{Track3D}
 use Rattle.types.specs.Track.{with_mark}
@@ -44,8 +45,8 @@ module _ (c : Cartesian3DTrackerConfig) where
     where
       go : (r : Reply Ruling) → verdict (pair_config c) t d ≡ r → and_then r (λ q. given (cost_of q)) ≡ given x → NoCost x
       go (refused n) p e = never_given n x e
-      go (given (allowed cost)) p e = absurd (far (cost, p))
-      go (given (forbidden rule)) p e = rw (← given_same _ x e)
+      go (given (Allowed cost)) p e = absurd (far (cost, p))
+      go (given (Forbidden rule)) p e = rw (← given_same _ x e)
 
   row_struck : (t : Track3D) (k : List Bool) (ds : List Detection) (row : List Float) → each (cost_reply (pair_config c) t) ds ≡ given row → Struck (NoPair t) k ds → Struck NoCost k row
   unfolding Struck

@@ -4,5 +4,6 @@ pub mod Mask
 pub mod Entries
 pub mod Turn
 pub mod Path
+pub mod Looking
 pub mod Rows
 pub mod Replies

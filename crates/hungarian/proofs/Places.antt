@@ -15,10 +15,3 @@ fits8 i h = omega arith
 
 pub after : (k n : ℕ) → k < n → n ≤ 128 → k + 1 < 129
 after k n h g = omega arith
-
--- one of the eight places after k, and one of the eight from k on
-pub next_eight : (k i : ℕ) → k + 8 ≤ 128 → i < 9 → k + i < 129
-next_eight k i h g = omega arith
-
-pub of_eight : (k i : ℕ) → k + 8 ≤ 129 → i < 8 → k + i < 129
-of_eight k i h g = omega arith

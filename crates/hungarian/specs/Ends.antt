@@ -68,10 +68,13 @@ run_reply costs q =
     (refuse_unless (eqb (length costs) (q.rows * q.cols)) 10
     (end_reply (rows float (entry float (square_from costs q)) (q.rows + q.cols) (q.rows + q.cols))))
 
+abbrev pub number_of : RunError → ℕ
+number_of TooMany = 11
+number_of Failed = 10
+
 abbrev pub reply_of_run : {A : Type 0} → Result (Unit {0}) RunError → A → Reply A
 reply_of_run (Ok u) a = given a
-reply_of_run (Err TooMany) a = refused 11
-reply_of_run (Err Failed) a = refused 10
+reply_of_run (Err why) a = refused (number_of why)
 
 pub record RunAnswer (costs : List Float) (q : Shape) (r : Result (Unit {0}) RunError) (before after : List ℕ) : Type 0 where
   pub is : reply_of_run r after ≡ run_reply costs q

@@ -1,5 +1,7 @@
 // The steps of `hungarian_square` on the padded square of one group: shortest augmenting paths, row after row. The entries of the square are worked out from
 // the group's own table. A column that is used has a NaN in `minv`, so that no loop asks which they are.
+// The costs, the shape and the arrays of a search stay parameters of their own, and so do the facts of the first two: in a struct that lends the costs (tried), each
+// clause speaks of two moments of it, as `table.entry.costs.now`, which is longer than the facts that it saves.
 #![tactic(auto)]
 
 ghost use Rattle.std.specs.Prelude.{◌≡◌, cond, ℕ, ◌+◌, ◌*◌, ◌≤◌, ◌<◌, length, get_or};

@@ -22,8 +22,8 @@ use Rattle.symmetry.specs.Symmetry.{mirrored, is_symmetric}
 use Rattle.symmetry.proofs.Mirrored.{mirrored_symmetric}
 use Rattle.cholesky.specs.Cholesky.{column_by, columns_from, cholesky}
 use Rattle.cholesky.proofs.Factors.{pivot_given, pivot_low, column_given, column_refused}
-use Rattle.definite.specs.Definite.{whether_given, factorable, reply_of_found}
-use Rattle.definite.proofs.Found.{last_column, no_factor}
+use Rattle.cholesky.specs.Definite.{whether_given, factorable, reply_of_found}
+use Rattle.cholesky.proofs.Found.{last_column, no_factor}
 use Rattle.math.specs.Linalg.{entries_checked, validated}
 
 -- a variance and the zero beside it

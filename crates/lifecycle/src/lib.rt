@@ -39,7 +39,7 @@ pub enum Verdict {
     Dropped,
 }
 
-// The same with the record as it is left, dropped or not.
+// The same with the record as it is left. No Option: the life as it is left is told of one that is dropped too, so both fields always count.
 #[derive(Clone, Copy)]
 pub struct AgedLifecycle {
     pub lifecycle: TrackLifecycle,

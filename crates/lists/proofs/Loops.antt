@@ -1,5 +1,5 @@
 -- What a loop over an array has done by index i, as a record that its invariant cites, with the law of each kind of turn. Assumes nothing.
-use Rattle.std.specs.Prelude.{None, Option, Some}
+use Rattle.std.specs.Prelude.{None, Some}
 use mathlib.Core.Path.{◌≡◌, refl, ap, sym, ◌∙◌}
 use mathlib.Core.List.{List, [], ◌∷◌, ◌++◌, map, append_assoc, append-nil}
 use mathlib.Core.Bool.{Bool, true, false}
@@ -13,47 +13,9 @@ use Rattle.lists.specs.Lay.{lay}
 use Rattle.lists.specs.Table.{inserted}
 use Rattle.lists.proofs.Laying.{lay_front, set_lay, get_d_lay}
 use Rattle.lists.proofs.Filling.{map_append}
-use Rattle.lists.specs.Sift.{sift, kept}
-use Rattle.lists.proofs.Sifting.{sift_more, sift_take_length}
 use Rattle.lists.specs.First.{any, first_at}
 use Rattle.lists.proofs.Firsts.{any_at, any_none, first_at_lem, first_none}
 use borrow.Author.Count.{below_more}
-
--- l's first i elements were sifted by f into m's first j
-pub record Sifted {A : Type 0} (f : A → Option A) (l m : List A) (i j : ℕ) : Type 0 where
-  pub read : i ≤ length l
-  pub count : j ≡ length (sift f (take i l))
-  pub slots : m ≡ lay (sift f (take i l)) l
-
-module _ {A : Type 0} (f : A → Option A) where
-  pub sifted_start : (l : List A) → Sifted f l l 0 0
-  unfolding sift lay
-  sifted_start l = record { read = zero-le; count = refl; slots = refl }
-
-  pub sifted_behind : (l m : List A) (i j : ℕ) → Sifted f l m i j → j ≤ i
-  sifted_behind l m i j s = omega (arith, s.count, sift_take_length f l i s.read)
-
-  -- the element at i is as it was
-  pub sifted_read : (l m : List A) (i j : ℕ) (d : A) → Sifted f l m i j → get_or m i d ≡ get_or l i d
-  sifted_read l m i j d s =
-      ap (λ (q : List A). get_or q i d) s.slots
-      ∙ get_d_lay (sift f (take i l)) l i d (sift_take_length f l i s.read)
-
-  pub sifted_drop : (l m : List A) (i j : ℕ) (d : A) → Sifted f l m i j → i < length l → f (get_or m i d) ≡ None → Sifted f l m (i + 1) j
-  sifted_drop l m i j d s h e =
-      let more : sift f (take (i + 1) l) ≡ sift f (take i l) =
-      sift_more f l i d h ∙ ap (λ (o : Option A). sift f (take i l) ++ kept o []) (ap f (sym (sifted_read l m i j d s)) ∙ e) ∙ append-nil (sift f (take i l)) in
-      record { read = omega arith; count = rw more s.count; slots = rw more s.slots }
-
-  pub sifted_keep : (l m : List A) (i j : ℕ) (d y : A) → Sifted f l m i j → i < length l → f (get_or m i d) ≡ Some y → Sifted f l (set m j y) (i + 1) (j + 1)
-  sifted_keep l m i j d y s h e =
-      let more : sift f (take (i + 1) l) ≡ sift f (take i l) ++ (y ∷ []) =
-      sift_more f l i d h ∙ ap (λ (o : Option A). sift f (take i l) ++ kept o []) (ap f (sym (sifted_read l m i j d s)) ∙ e) in
-      record {
-        read = omega arith;
-        count = rw (more, length-append) (ap (λ (k : ℕ). k + 1) s.count);
-        slots = rw (more, s.slots, s.count) (set_lay (sift f (take i l)) l y (omega (arith, sift_take_length f l i s.read)));
-      }
 
 -- l's first i elements were changed by f in place
 pub record Mapped {A : Type 0} (f : A → A) (l m : List A) (i : ℕ) : Type 0 where

@@ -5,14 +5,9 @@ use mathlib.Core.Bool.{Bool, true, false, true≢false, ◌&&◌}
 use Prim.Native.Nat.{ℕ}
 use lib.Dec.{eqb}
 use lib.ListN.{length}
-use borrow.Author.Tests.{eq-eqb, eqb-true}
+use borrow.Author.Tests.{eqb-true}
 use Rattle.std.specs.Cmp.Lexicographic.{pointwise}
 use Rattle.lists.specs.Same.{same}
-
-pub same_self : (l : List ℕ) → same l l ≡ true
-unfolding same
-same_self [] = refl
-same_self (x ∷ xs) = rw (eq-eqb x x refl) (same_self xs)
 
 pub same_true : (l m : List ℕ) → same l m ≡ true → l ≡ m
 unfolding same

@@ -7,12 +7,11 @@ use native.Mathlib.Nat.{mul-le-mul_right}
 use native.Mathlib.Omega.{arith}
 use lib.IntN.{ℤ}
 use lib.Ieee.{Float}
-use lib.ListN.{length, take, length-replicate, get_or-replicate}
+use lib.ListN.{length, take}
 use lib.Seq.{length-take-le}
 use Rattle.number.specs.Reply.{Reply, refused, given, and_then}
-use Rattle.lists.specs.Lay.{lay}
 use Rattle.lists.proofs.Tables.{rows as front}
-use Rattle.kuhn_munkres.specs.Assignment.{rows_of, in_one, column_of}
+use Rattle.kuhn_munkres.specs.Assignment.{rows_of, in_one}
 use Rattle.number.proofs.Replies.{never_given}
 use Rattle.assignment.specs.Taking.{takers_of}
 use Rattle.detections.specs.declared.Detection.{Detection}
@@ -26,9 +25,16 @@ use Rattle.cost_table.proofs.Tabling.{table_rows, table_given}
 use Rattle.association.proofs.Columns.{pairs_all, unmatched_all}
 use Rattle.matching.specs.declared.Paired.{Paired}
 use Rattle.matching.specs.Takers.{rows_paired, Takes}
-use Rattle.matching.specs.Stage.{rows_taken, RowsMatch, nothing_paired, Tells}
+use Rattle.matching.specs.Stage.{rows_taken, RowsMatch, Tells}
 
-module _ (rule : PairConfig) (all : List Row) (seen : List Detection) (n m : ℕ) (st : length all ≡ 64) (sd : length seen ≡ 64) (hn : n ≤ 64) (hm : m ≤ 64) where
+-- the first `wanted` rows and detections are asked for; counts above 64 count as 64
+module _ (rule : PairConfig) (all : List Row) (seen : List Detection) (wanted_rows wanted : ℕ) (n m : ℕ) (st : length all ≡ 64) (sd : length seen ≡ 64) (en : n ≡ min wanted_rows 64) (em : m ≡ min wanted 64) where
+  hn : n ≤ 64
+  hn = omega (arith, en)
+
+  hm : m ≤ 64
+  hm = omega (arith, em)
+
   abbrev rows : List Row
   rows = take n all
 
@@ -42,10 +48,11 @@ module _ (rule : PairConfig) (all : List Row) (seen : List Detection) (n m : ℕ
   seen_long = length-take-le m seen (omega arith)
 
   tells_answers : (ids : List ℕ) → take n ids ≡ take n (ids_of all) → (table : List (List Float)) (costs : List Float) → row_costs rule rows ds ≡ given table → rows_of n m (take (n * m) costs) ≡ table → (takers : List ℕ) → length takers ≡ 64
-      → (r : Paired) → Tells ids n m costs takers r → RowsMatch rule rows ds (given (takers_of m takers)) r
+      → (r : Paired) → Tells ids n m costs takers r → RowsMatch rule rows ds (given (takers_of m takers)) (Ok r)
   tells_answers ids numbers table costs e cut takers sk r s =
       record {
-        outcome = ap reply_of s.outcome;
+        takers = takers_of m takers;
+        outcome = refl;
         mates = s.mates;
         pairs = pairs_all rule all ids seen n m st numbers sd hn hm takers sk table costs e cut r.pairs s.pairs;
         unmatched = unmatched_all rule all ids seen n m st numbers sd hn hm takers sk r.mates r.unmatched r.unmatched_count s.mates s.unmatched;
@@ -57,23 +64,17 @@ module _ (rule : PairConfig) (all : List Row) (seen : List Detection) (n m : ℕ
     abbrev reply : Reply (List (Option ℕ))
     reply = rows_taken rule window now rows ds
 
-    refusal_answers : (why : Refusal) (r : Paired) → reply ≡ refused (number_of why) → r ≡ nothing_paired why → RowsMatch rule rows ds reply r
-    unfolding lay column_of
-    refusal_answers why r e q =
-        subst (λ (x : Reply (List (Option ℕ))). RowsMatch rule rows ds x r) (sym e)
-        (subst (λ (y : Paired). RowsMatch rule rows ds (refused (number_of why)) y) (sym q)
-        (record {
-          outcome = refl;
-          mates = record { long = length-replicate {A = ℕ} 64 64; at = λ i h. get_or-replicate 64 i 64 0 h };
-          pairs = refl;
-          unmatched = record { slots = refl; many = refl };
-        }))
+    abbrev pub Answer : Result Paired Refusal → Type 0
+    Answer r = RowsMatch rule (take wanted_rows all) (take wanted seen) (rows_taken rule window now (take wanted_rows all) (take wanted seen)) r
+
+    by_counts : (r : Result Paired Refusal) → RowsMatch rule rows ds reply r → Answer r
+    by_counts r a = rw (front all 64 wanted_rows n st en, front seen 64 wanted m sd em) a
 
     module _ (before : List Float) (size : length before ≡ 4096) (o : Result (Unit {0}) Refusal) (costs : List Float) (tabled : Tabled rule rows ds (reply_of o) before costs) where
       -- a distance is refused
-      pub stage_unpriced : (why : Refusal) → o ≡ Err why → (r : Paired) → r ≡ nothing_paired why → RowsMatch rule rows ds reply r
+      pub stage_unpriced : (why : Refusal) → o ≡ Err why → Answer (Err why)
       unfolding rows_taken
-      stage_unpriced why e r q = refusal_answers why r (go (row_costs rule rows ds) refl) q
+      stage_unpriced why e = by_counts (Err why) (go (row_costs rule rows ds) refl)
         where
           is : ◌≡◌ {A = Reply (Unit {0})} (refused (number_of why)) (and_then (row_costs rule rows ds) (λ table. given (tt {0})))
           is = ap {B = Reply (Unit {0})} reply_of (sym e) ∙ tabled.is
@@ -117,18 +118,11 @@ module _ (rule : PairConfig) (all : List Row) (seen : List Detection) (n m : ℕ
           ends x w = taken priced ∙ sym s.is ∙ ap (λ (y : Result (Unit {0}) Refusal). and_then (reply_of y) (λ u. given (takers_of m takers))) w
 
           -- a window age or the assignment is refused
-          pub stage_unpaired : (why : Refusal) → q ≡ Err why → (r : Paired) → r ≡ nothing_paired why → RowsMatch rule rows ds reply r
-          stage_unpaired why w r h = refusal_answers why r (ends (Err why) w) h
+          pub stage_unpaired : (why : Refusal) → q ≡ Err why → Answer (Err why)
+          stage_unpaired why w = by_counts (Err why) (ends (Err why) w)
 
-          pub stage_told : q ≡ Ok tt → (ids : List ℕ) → take n ids ≡ take n (ids_of all) → (r : Paired) → Tells ids n m costs takers r → RowsMatch rule rows ds reply r
+          pub stage_told : q ≡ Ok tt → (ids : List ℕ) → take n ids ≡ take n (ids_of all) → (r : Paired) → Tells ids n m costs takers r → Answer (Ok r)
           stage_told w ids numbers r h =
-              subst (λ (x : Reply (List (Option ℕ))). RowsMatch rule rows ds x r) (sym (ends (Ok tt) w))
-              (tells_answers ids numbers priced.table costs priced.given_table priced.cut takers s.long r h)
-
--- ---- counts above 64 count as 64
-
-pub by_counts : (rule : PairConfig) (window : Option ℤ) (now : ℤ) (all : List Row) (seen : List Detection) (st : length all ≡ 64) (sd : length seen ≡ 64) (n m count columns : ℕ) → count ≡ min n 64 → columns ≡ min m 64 → (r : Paired)
-    → RowsMatch rule (take count all) (take columns seen) (rows_taken rule window now (take count all) (take columns seen)) r
-    → RowsMatch rule (take n all) (take m seen) (rows_taken rule window now (take n all) (take m seen)) r
-by_counts rule window now all seen st sd n m count columns e f r a =
-    rw (front all 64 n count st e, front seen 64 m columns sd f) a
+              by_counts (Ok r)
+              (subst (λ (x : Reply (List (Option ℕ))). RowsMatch rule rows ds x (Ok r)) (sym (ends (Ok tt) w))
+              (tells_answers ids numbers priced.table costs priced.given_table priced.cut takers s.long r h))

@@ -1,5 +1,5 @@
 -- What the owner of a batch reads off the stage: the rest of `matchedWith` of calls, over the arrays that `pair_tracks` gives. Assumes nothing.
-use Rattle.std.specs.Prelude.{Err, Ok, None, Option, Some}
+use Rattle.std.specs.Prelude.{Err, Ok, None, Option, Result, Some}
 use mathlib.Core.Path.{◌≡◌, refl, sym, ap, ◌∙◌, subst}
 use mathlib.Core.Bool.{Bool, not}
 use mathlib.Core.List.{List, [], ◌∷◌, map}
@@ -14,11 +14,11 @@ use Rattle.lists.specs.Masks.{left_by, zipped, count, up_from}
 use Rattle.matrix.specs.Matrix.{nought}
 use Rattle.lists.specs.Each.{each}
 use Rattle.kuhn_munkres.specs.Takers.{free, taken_by, both_takers}
-use Rattle.number.proofs.Replies.{bound, given_same, never_given}
+use Rattle.number.proofs.Replies.{bound, given_same}
 use Rattle.kuhn_munkres.specs.Assignment.{in_one, named}
 use Rattle.detections.specs.declared.Detection.{Detection}
 use Rattle.detections.specs.declared.pairs.PairConfig.{PairConfig}
-use Rattle.types.specs.Refusals.{number_of, reply_of}
+use Rattle.types.specs.Refusals.{number_of}
 use Rattle.types.specs.declared.refusal.Refusal.{Refusal}
 use Rattle.types.specs.declared.track.Track3D.{Track3D}
 use Rattle.lists.specs.Lay.{lay}
@@ -60,20 +60,21 @@ ids_of_rows : (ts : List Track3D) → ids_of (map row_of ts) ≡ numbers_of ts
 ids_of_rows [] = refl
 ids_of_rows (t ∷ ts) = ap {B = List ℕ} (λ l. t.id ∷ l) (ids_of_rows ts)
 
-pub rows_matched : (rule : PairConfig) (window : Option ℤ) (now : ℤ) (ts : List Track3D) (ds : List Detection) (rows : List Row) (r : Paired) → rows ≡ map row_of ts
+pub rows_matched : (rule : PairConfig) (window : Option ℤ) (now : ℤ) (ts : List Track3D) (ds : List Detection) (rows : List Row) (r : Result Paired Refusal) → rows ≡ map row_of ts
     → RowsMatch rule rows ds (rows_taken rule window now rows ds) r → Matches rule ts ds (takers_for rule window now ts ds) r
 rows_matched rule window now ts ds rows r e a =
-    told (takers_for rule window now ts ds)
+    told r
     (subst (λ (x : Reply (List (Option ℕ))). RowsMatch rule (map row_of ts) ds x r) (taken_rows rule window now ts ds) (subst (λ (q : List Row). RowsMatch rule q ds (rows_taken rule window now q ds) r) e a))
   where
-    told : (x : Reply (List (Option ℕ))) → RowsMatch rule (map row_of ts) ds x r → Matches rule ts ds x r
-    told (refused n) s = s
-    told (given t) s =
+    told : (x : Result Paired Refusal) → RowsMatch rule (map row_of ts) ds (takers_for rule window now ts ds) x → Matches rule ts ds (takers_for rule window now ts ds) x
+    told (Err why) s = s
+    told (Ok p) s =
         record {
+          takers = s.takers;
           outcome = s.outcome;
           mates = s.mates;
-          pairs = s.pairs ∙ ap (λ (l : List Pair). lay l (replicate 64 alone)) (pairs_of_tracks rule ts t ds);
-          unmatched = subst (λ (l : List ℕ). Listed l r.unmatched r.unmatched_count) (ap (unmatched_of (taken_by t ds) 0) (ids_of_rows ts) ∙ unmatched_numbers (taken_by t ds) 0 ts) s.unmatched;
+          pairs = s.pairs ∙ ap (λ (l : List Pair). lay l (replicate 64 alone)) (pairs_of_tracks rule ts s.takers ds);
+          unmatched = subst (λ (l : List ℕ). Listed l p.unmatched p.unmatched_count) (ap (unmatched_of (taken_by s.takers ds) 0) (ids_of_rows ts) ∙ unmatched_numbers (taken_by s.takers ds) 0 ts) s.unmatched;
         }
 
 -- ---- a pairing has a taker, or none, for each detection
@@ -110,7 +111,7 @@ takers_for_long rule window now ts ds t e = let p = bound (cost_table rule ts ds
 
 -- ---- the rest of a batch's stage 6
 
-module _ (c : Cartesian3DTrackerConfig) (sensor : ℕ) (now : ℤ) (tracks : List Track3D) (n : ℕ) (seen : List Detection) (m : ℕ) (st : length tracks ≡ 64) (sd : length seen ≡ 64) (r : Paired) where
+module _ (c : Cartesian3DTrackerConfig) (sensor : ℕ) (now : ℤ) (tracks : List Track3D) (n : ℕ) (seen : List Detection) (m : ℕ) (st : length tracks ≡ 64) (sd : length seen ≡ 64) where
   abbrev ts : List Track3D
   ts = take n tracks
 
@@ -132,35 +133,20 @@ module _ (c : Cartesian3DTrackerConfig) (sensor : ℕ) (now : ℤ) (tracks : Lis
       go (refused k) = refl
       go (given rows) = refl
 
-  module _ (a : Matches (pair_config c) ts ds reply r) where
-    pub stage_refused : (why : Refusal) → r.outcome ≡ Err why → matched_with c sensor now ds ts ≡ refused (number_of why)
-    stage_refused why e = matched_stage ∙ go reply refl
-      where
-        is : (x : Reply (List (Option ℕ))) → reply ≡ x → ◌≡◌ {A = Reply (Unit {0})} (refused (number_of why)) (and_then x (λ takers. given (tt {0})))
-        is x w = ap {B = Reply (Unit {0})} reply_of (sym e) ∙ a.outcome ∙ ap (λ (y : Reply (List (Option ℕ))). and_then y (λ takers. given tt)) w
+  pub stage_refused : (why : Refusal) → Matches (pair_config c) ts ds reply (Err why) → matched_with c sensor now ds ts ≡ refused (number_of why)
+  stage_refused why a = matched_stage ∙ ap (λ (x : Reply (List (Option ℕ))). and_then x rest) a
 
-        go : (x : Reply (List (Option ℕ))) → reply ≡ x → and_then x rest ≡ refused (number_of why)
-        go (refused k) w = let z = is (refused k) w in cc
-        go (given t) w = never_given (number_of why) tt (is (given t) w)
-
-    -- all that is left of `matchedWith`: the updates by the mates, and what was told
-    pub stage_given : r.outcome ≡ Ok tt
-        → matched_with c sensor now ds ts
-        ≡ and_then (updates c sensor now (mate_of r.mates seen) ts) (λ us. given (record { tracks = us; columns = columns_from m r.pairs seen; unmatched = take r.unmatched_count r.unmatched }))
-    unfolding updates
-    stage_given e = matched_stage ∙ go reply refl
-      where
-        is : (x : Reply (List (Option ℕ))) → reply ≡ x → ◌≡◌ {A = Reply (Unit {0})} (given (tt {0})) (and_then x (λ takers. given (tt {0})))
-        is x w = ap {B = Reply (Unit {0})} reply_of (sym e) ∙ a.outcome ∙ ap (λ (y : Reply (List (Option ℕ))). and_then y (λ takers. given tt)) w
-
-        go : (x : Reply (List (Option ℕ))) → reply ≡ x
-            → and_then x rest ≡ and_then (updates c sensor now (mate_of r.mates seen) ts) (λ us. given (record { tracks = us; columns = columns_from m r.pairs seen; unmatched = take r.unmatched_count r.unmatched }))
-        go (refused k) w = never_given k tt (sym (is (refused k) w))
-        go (given t) w =
-            let long = takers_for_long (pair_config c) (c.recent_track_window_ns) now ts ds t w in
-            let b : Matches (pair_config c) ts ds (given t) r = subst (λ (x : Reply (List (Option ℕ))). Matches (pair_config c) ts ds x r) w a in
-            rw (
-              columns_told (pair_config c) ts seen m sd t long r.pairs b.pairs,
-              listed_told (unmatched_from (taken_by t ds) 0 ts) r.unmatched r.unmatched_count b.unmatched,
-              each_by_mates t r.mates seen m b.mates sd long (updated_by c sensor now) ts (let q = length-take n tracks in omega arith),
-            )
+  -- all that is left of `matchedWith`: the updates by the mates, and what was told
+  pub stage_given : (r : Paired) → Matches (pair_config c) ts ds reply (Ok r)
+      → matched_with c sensor now ds ts
+      ≡ and_then (updates c sensor now (mate_of r.mates seen) ts) (λ us. given (record { tracks = us; columns = columns_from m r.pairs seen; unmatched = take r.unmatched_count r.unmatched }))
+  unfolding updates
+  stage_given r a =
+      let long = takers_for_long (pair_config c) (c.recent_track_window_ns) now ts ds a.takers a.outcome in
+      matched_stage
+      ∙ ap (λ (x : Reply (List (Option ℕ))). and_then x rest) a.outcome
+      ∙ rw (
+        columns_told (pair_config c) ts seen m sd a.takers long r.pairs a.pairs,
+        listed_told (unmatched_from (taken_by a.takers ds) 0 ts) r.unmatched r.unmatched_count a.unmatched,
+        each_by_mates a.takers r.mates seen m a.mates sd long (updated_by c sensor now) ts (let q = length-take n tracks in omega arith),
+      )

@@ -3,10 +3,16 @@ use Rattle.std.specs.Prelude.{ℕ, ◌≡◌, List, ℤ, Float, length, None, Op
 use Rattle.number.specs.Reply.{Reply, given, and_then}
 use Rattle.lists.specs.Each.{each}
 use Rattle.kuhn_munkres.specs.Takers.{Takers}
+use Rattle.kuhn_munkres.specs.Assignment.{rows_of}
+use Rattle.cascade.specs.declared.Table.{Table}
 use Rattle.assignment.specs.Taking.{takers_of}
 use Rattle.calls.specs.Pairing.{assigned, cascaded}
 use Rattle.pairing.specs.declared.Row.{Row}
 use Rattle.pairing.specs.Rows.{recent_row}
+
+-- the rows of a table
+abbrev pub costs_of : Table → List (List Float)
+costs_of t = rows_of t.rows t.columns t.costs.now
 
 -- one assignment, or the cascade where a window is set: `pairedIn` of calls, of rows
 unfoldable pub rows_paired : Float → Option ℤ → ℤ → List Row → List (List Float) → ℕ → Reply Takers

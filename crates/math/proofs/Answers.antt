@@ -1,5 +1,5 @@
 -- What the tests on the way of an answer say of the definition, whatever the size. Assumes nothing.
-use mathlib.Core.Path.{◌≡◌, refl, ◌∙◌}
+use mathlib.Core.Path.{◌≡◌, refl}
 use mathlib.Core.Bool.{Bool, true, false}
 use Prim.Native.Nat.{ℕ}
 use lib.Ieee.{Float, lt}
@@ -10,8 +10,7 @@ use Rattle.finite.specs.Finite.{finite_vector, finite_matrix}
 use Rattle.symmetry.specs.Symmetry.{is_symmetric}
 use Rattle.cholesky.specs.Cholesky.{cholesky}
 use Rattle.solving.specs.Solving.{solved}
-use Rattle.definite.specs.Definite.{factorable}
-use Rattle.math.specs.Linalg.{entries_checked, entries_reply, validated, distance_reply, distance_by, squared_distance}
+use Rattle.math.specs.Linalg.{entries_checked, entries_reply, distance_reply, distance_by, squared_distance}
 
 -- ---- a squared distance
 
@@ -79,11 +78,3 @@ module _ (n : ℕ) (a : Matrix) where
       go true true h = cc
       go true false h = cc
       go false c h = cc
-
-  pub factor_decides : {r : Reply (Unit {0})} → given tt ≡ entries_reply n a → r ≡ factorable n a → r ≡ validated n a
-  unfolding validated
-  factor_decides e f = f ∙ entries_pass (factorable n a) e
-
-  pub entries_decide : {m : ℕ} → refused m ≡ entries_reply n a → refused m ≡ validated n a
-  unfolding validated
-  entries_decide e = entries_stop (factorable n a) e

@@ -1,15 +1,15 @@
 -- What the functions of `linalg` answer, in 01's numbers.
 use Rattle.math.specs.declared.linalg.Refusal.{Refusal}
-use Rattle.std.specs.Prelude.{ℕ, cond, Float, Err, Ok, Result}
+use Rattle.std.specs.Prelude.{ℕ, cond, Float, Result}
 use Rattle.std.specs.Float.Ieee.{lt}
 use Rattle.std.specs.Float.Ieee.Scale.{finite}
-use Rattle.number.specs.Reply.{Reply, refused, given, refuse_unless, and_then}
+use Rattle.number.specs.Reply.{Reply, given, refuse_unless, and_then, reply_by}
 use Rattle.matrix.specs.Matrix.{Vector, Matrix, nought, dot}
 use Rattle.math.specs.Refusing.{number_of}
 use Rattle.finite.specs.Finite.{finite_vector, finite_matrix}
 use Rattle.symmetry.specs.Symmetry.{is_symmetric}
 use Rattle.cholesky.specs.Cholesky.{cholesky}
-use Rattle.definite.specs.Definite.{factorable}
+use Rattle.cholesky.specs.Definite.{factorable}
 use Rattle.solving.specs.Solving.{solved}
 
 -- ---- definitions
@@ -39,9 +39,7 @@ squared_distance n u s = and_then (cholesky n s) (λ l. distance_by n l u)
 -- ---- the answers
 
 abbrev pub reply_of_validity : Result (Unit {0}) Refusal → Reply (Unit {0})
-reply_of_validity (Ok _) = given tt
-reply_of_validity (Err e) = refused (number_of e)
+reply_of_validity r = reply_by number_of r
 
 abbrev pub reply_of_distance : Result Float Refusal → Reply Float
-reply_of_distance (Ok d) = given d
-reply_of_distance (Err e) = refused (number_of e)
+reply_of_distance r = reply_by number_of r

@@ -1,8 +1,8 @@
 // Checks of covariances, and the squared distance. Each answer is equal bit for bit to the definition of any size in specs/.
 ghost use Rattle.std.specs.Prelude.{◌≡◌};
 ghost use Rattle.number.specs.Reply.{and_then};
-ghost use Rattle.cholesky.specs.Factor.{columns_of3, reply_of_factor3};
-ghost use Rattle.definite.specs.Definite.{reply_of_found};
+ghost use Rattle.cholesky.specs.Factor.{reply_of_factor};
+ghost use Rattle.cholesky.specs.Definite.{reply_of_found};
 ghost use Rattle.math.specs.Linalg.{entries_checked, entries_reply, validated, distance_reply, distance_by, squared_distance, reply_of_validity, reply_of_distance};
 
 // Why a matrix or a result is refused.
@@ -26,10 +26,10 @@ fn distance_of(d: f64) -> Result<f64, Refusal>
 }
 
 // The squared distance of the innovation u by the factor of its covariance.
-fn distance_by3(l: cholesky::Lower3, u: [f64; 3]) -> Result<f64, Refusal>
-    ensures { reply_of_distance result ≡ distance_by 3 (columns_of3 l) u }
+fn distance_by<const N: usize>(l: cholesky::Lower<N>, u: [f64; N]) -> Result<f64, Refusal>
+    ensures { reply_of_distance result ≡ distance_by N l.entry.columns u.entry }
 {
-    let x = solving::solve3(l, u);
+    let x = solving::solve(l, u);
     if finite::is_finite_vector(x) {
         distance_of(product::dot(u, x))
     } else {
@@ -38,20 +38,23 @@ fn distance_by3(l: cholesky::Lower3, u: [f64; 3]) -> Result<f64, Refusal>
 }
 
 // The same by what the factor's search answered.
-pub fn distance_by_factor3(u: [f64; 3], factor: Option<cholesky::Lower3>) -> Result<f64, Refusal>
-    ensures { reply_of_distance result ≡ and_then (reply_of_factor3 factor) (λ l. distance_by 3 l u) }
+pub fn distance_by_factor<const N: usize>(
+    u: [f64; N],
+    factor: Option<cholesky::Lower<N>>,
+) -> Result<f64, Refusal>
+    ensures { reply_of_distance result ≡ and_then (reply_of_factor factor.entry) (λ l. distance_by N l u.entry) }
 {
     match factor {
-        Some(l) => distance_by3(l, u),
+        Some(l) => distance_by(l, u),
         None => Err(Refusal::NotPositiveDefinite),
     }
 }
 
 // The squared distance of the innovation u with the covariance s.
-pub fn squared_mahalanobis3(u: [f64; 3], s: [[f64; 3]; 3]) -> Result<f64, Refusal>
-    ensures { reply_of_distance result ≡ squared_distance 3 u s }
+pub fn squared_mahalanobis<const N: usize>(u: [f64; N], s: [[f64; N]; N]) -> Result<f64, Refusal>
+    ensures { reply_of_distance result ≡ squared_distance N u.entry s.entry }
 {
-    distance_by_factor3(u, cholesky::cholesky3(s))
+    distance_by_factor(u, cholesky::cholesky(s))
 }
 
 // Whether the entries of a may be a covariance's: finite, then symmetric.
@@ -70,39 +73,20 @@ fn check_entries<const N: usize>(a: [[f64; N]; N]) -> Result<(), Refusal>
 }
 
 // Whether a may be a covariance, finite, symmetric and with a factor in this order, where it is known whether it has one.
-pub fn validity3(a: [[f64; 3]; 3], definite: bool) -> Result<(), Refusal>
-    ensures { reply_of_validity result ≡ entries_checked 3 a (reply_of_found definite) }
+pub fn validity<const N: usize>(a: [[f64; N]; N], definite: bool) -> Result<(), Refusal>
+    ensures { reply_of_validity result ≡ entries_checked N a.entry (reply_of_found definite) }
 {
-    match check_entries(a) {
-        Ok(()) => {
-            if definite {
-                Ok(())
-            } else {
-                Err(Refusal::NotPositiveDefinite)
-            }
-        }
-        Err(why) => Err(why),
+    check_entries(a)?;
+    if definite {
+        Ok(())
+    } else {
+        Err(Refusal::NotPositiveDefinite)
     }
 }
 
 // Whether a may be a covariance.
-pub fn validate_covariance3(a: [[f64; 3]; 3]) -> Result<(), Refusal>
-    ensures { reply_of_validity result ≡ validated 3 a }
+pub fn validate_covariance<const N: usize>(a: [[f64; N]; N]) -> Result<(), Refusal>
+    ensures { reply_of_validity result ≡ validated N a.entry }
 {
-    validity3(a, definite::has_factor3(a))
-}
-
-pub fn validate_covariance6(a: [[f64; 6]; 6]) -> Result<(), Refusal>
-    ensures { reply_of_validity result ≡ validated 6 a }
-{
-    match check_entries(a) {
-        Ok(()) => {
-            if definite::has_factor6(a) {
-                Ok(())
-            } else {
-                Err(Refusal::NotPositiveDefinite)
-            }
-        }
-        Err(why) => Err(why),
-    }
+    validity(a, cholesky::has_factor(a))
 }

@@ -1,5 +1,5 @@
 -- What the loop over all tracks comes to, and what its turns say of a track's life. Assumes nothing.
-use Rattle.std.specs.Prelude.{Err, Ok, Result, None, Option, Some}
+use Rattle.std.specs.Prelude.{None, Option, Some}
 use mathlib.Core.Path.{◌≡◌, refl, sym, ap, ◌∙◌}
 use mathlib.Core.List.{List}
 use Prim.Native.Nat.{ℕ, min}
@@ -7,7 +7,7 @@ use native.Mathlib.Omega.{arith}
 use lib.IntN.{ℤ}
 use lib.Ieee.{Float}
 use lib.ListN.{length, take}
-use Rattle.number.specs.Reply.{Reply, refused, given, and_then, left_in}
+use Rattle.number.specs.Reply.{Reply, refused, given, and_then}
 use Rattle.number.proofs.Replies.{given_same, never_given, bound}
 use Rattle.lists.specs.Sift.{sift}
 use Rattle.lists.specs.Table.{table}
@@ -17,15 +17,11 @@ use Rattle.lifecycle.specs.declared.LifecycleConfig.{LifecycleConfig}
 use Rattle.lifecycle.specs.declared.Verdict.TheVariants.{Kept, Dropped}
 use Rattle.types.specs.declared.track.Track3D.{Track3D}
 use Rattle.types.specs.declared.tracker.Cartesian3DTracker.{Cartesian3DTracker}
-use Rattle.types.specs.declared.refusal.Refusal.{Refusal}
-use Rattle.types.specs.Refusals.{number_of, answered}
 use Rattle.types.specs.States.{tracks_of, over_tracks, with_tables, sequence_table, candidate_table}
 use Rattle.lists.specs.Each.{each}
 use Rattle.calls.specs.Predict.{continued, moved, predicted_tracks}
 use Rattle.moving.specs.declared.AgedTrack.{AgedTrack}
-use Rattle.moving.specs.declared.TrackStep.{TrackStep}
-use Rattle.moving.specs.declared.TrackerStep.{TrackerStep}
-use Rattle.moving.specs.Steps.{TrackAnswers, TrackerAnswers, aged_track, carried_on, carried, moved_tracks}
+use Rattle.moving.specs.Steps.{aged_track, carried_on, carried, moved_tracks}
 use Rattle.moving.proofs.Passing.{Passed}
 
 -- ---- one track
@@ -42,13 +38,6 @@ module _ (life : LifecycleConfig) (now : ℤ) (x : Track3D) (a : AgedTrack) (e :
   life_ends v =
       let w : (aged_of x.lifecycle now life).verdict ≡ Dropped = ap (λ (b : AgedTrack). b.verdict) (sym e) ∙ v in
       rw w
-
-module _ {x : Track3D} {s : TrackStep} {reply : Reply Track3D} (a : TrackAnswers x s reply) where
-  pub step_given : s.outcome ≡ Ok tt → reply ≡ given s.track
-  step_given e = sym a.is ∙ ap (λ (o : Result (Unit {0}) Refusal). answered o s.track) e
-
-  pub step_refuses : (why : Refusal) → s.outcome ≡ Err why → reply ≡ refused (number_of why)
-  step_refuses why e = sym a.is ∙ ap (λ (o : Result (Unit {0}) Refusal). answered o s.track) e
 
 -- ---- both: a track that is kept is moved
 
@@ -106,20 +95,6 @@ module _ (life : LifecycleConfig) (q : Float) (now : ℤ) (x : Track3D) where
       go (Some y) w e = record { aged = y; goes_on = w; moves = refused_before (moved q now y) Some n e }
 
 -- ---- the tracker
-
-module _ {t : Cartesian3DTracker} where
-  pub carries_out : {u : Cartesian3DTracker} {reply : Reply Cartesian3DTracker} → given u ≡ reply → TrackerAnswers t (record { outcome = Ok tt; tracker = u }) reply
-  carries_out e = record { is = e; left = ap (λ (r : Reply Cartesian3DTracker). left_in r t) e }
-
-  pub refuses : {why : Refusal} {reply : Reply Cartesian3DTracker} → refused (number_of why) ≡ reply → TrackerAnswers t (record { outcome = Err why; tracker = t }) reply
-  refuses e = record { is = e; left = ap (λ (r : Reply Cartesian3DTracker). left_in r t) e }
-
-module _ {t : Cartesian3DTracker} {s : TrackerStep} {reply : Reply Cartesian3DTracker} (a : TrackerAnswers t s reply) where
-  pub call_given : s.outcome ≡ Ok tt → reply ≡ given s.tracker
-  call_given e = sym a.is ∙ ap (λ (o : Result (Unit {0}) Refusal). answered o s.tracker) e
-
-  pub call_refuses : (why : Refusal) → s.outcome ≡ Err why → reply ≡ refused (number_of why)
-  call_refuses why e = sym a.is ∙ ap (λ (o : Result (Unit {0}) Refusal). answered o s.tracker) e
 
 module _ (s : Cartesian3DTracker) (now : ℤ) (n : ℕ) (size : length s.tracks ≡ 64) (taken : n ≡ min s.track_count 64) where
   abbrev goes_on : Track3D → Option Track3D

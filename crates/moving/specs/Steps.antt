@@ -1,6 +1,6 @@
--- What a step on one track answers, and a track as a time leaves it.
-use Rattle.std.specs.Prelude.{◌≡◌, ℤ, Float, None, Option, Some}
-use Rattle.number.specs.Reply.{Reply, refused, given, and_then, left_in}
+-- A track as a time leaves it, and the tracks.
+use Rattle.std.specs.Prelude.{ℤ, Float, None, Option, Some}
+use Rattle.number.specs.Reply.{Reply, given, and_then}
 use Rattle.lifecycle.specs.Lifecycle.{aged_of}
 use Rattle.lifecycle.specs.declared.Verdict.{Verdict}
 use Rattle.lifecycle.specs.declared.LifecycleConfig.{LifecycleConfig}
@@ -8,23 +8,8 @@ use Rattle.types.specs.declared.track.Track3D.{Track3D}
 use Rattle.types.specs.Track.{with_lifecycle}
 use Rattle.types.specs.declared.tracker.Cartesian3DTracker.{Cartesian3DTracker}
 use Rattle.types.specs.States.{tracks_of, over_tracks}
-use Rattle.types.specs.Refusals.{number_of, answered}
 use Rattle.calls.specs.Predict.{continued, moved, predicted_tracks}
-use Rattle.moving.specs.declared.TrackStep.{TrackStep}
-use Rattle.moving.specs.declared.TrackerStep.{TrackerStep}
 use Rattle.moving.specs.declared.AgedTrack.{AgedTrack}
-use Rattle.moving.specs.declared.Fate.{Fate}
-use Rattle.moving.specs.declared.Fate.TheVariants.{Dropped, Kept, Refused}
-
--- the reply, and the track that the step leaves; 01: "A refusal answers its number and changes nothing lent or held."
-pub record TrackAnswers (before : Track3D) (s : TrackStep) (reply : Reply Track3D) : Type 0 where
-  pub is : answered s.outcome s.track ≡ reply
-  pub left : s.track ≡ left_in reply before
-
--- the same for the whole tracker
-pub record TrackerAnswers (before : Cartesian3DTracker) (s : TrackerStep) (reply : Reply Cartesian3DTracker) : Type 0 where
-  pub is : answered s.outcome s.tracker ≡ reply
-  pub left : s.tracker ≡ left_in reply before
 
 abbrev pub aged_with : Track3D → Verdict → AgedTrack
 aged_with t v = record { track = t; verdict = v }
@@ -40,11 +25,6 @@ carried_on q now (Some t) = and_then (moved q now t) (λ u. given (Some u))
 
 unfoldable pub carried : LifecycleConfig → Float → ℤ → Track3D → Reply (Option Track3D)
 carried life q now t = carried_on q now (continued life now t)
-
-abbrev pub fate_of : Fate → Track3D → Reply (Option Track3D)
-fate_of Dropped t = given None
-fate_of Kept t = given (Some t)
-fate_of (Refused why) t = refused (number_of why)
 
 -- the tracker with its tracks at a time; what stands behind their count is as it was
 unfoldable pub moved_tracks : Cartesian3DTracker → ℤ → Reply Cartesian3DTracker

@@ -2,11 +2,10 @@
 #![tactic(auto)]
 
 ghost use Rattle.std.specs.Prelude.{◌≡◌};
-ghost use Rattle.number.specs.Reply.{given, and_then};
-ghost use Rattle.filter.specs.Filter.{reply_of_step};
-ghost use Rattle.types.specs.Track.{with_filter, with_timestamp};
+ghost use Rattle.number.specs.Reply.{reply_by};
+ghost use Rattle.types.specs.Refusals.{number_of};
 ghost use Rattle.calls.specs.Predict.{moved_by, moved};
-ghost use Rattle.moving.specs.Steps.{TrackAnswers, TrackerAnswers, aged_with, aged_track, fate_of, carried, moved_tracks, with_time};
+ghost use Rattle.moving.specs.Steps.{aged_with, aged_track, carried, moved_tracks, with_time};
 
 use lifecycle::{LifecycleConfig, Verdict};
 use types::MAX_TRACKS;
@@ -14,21 +13,7 @@ use types::refusal::Refusal;
 use types::track::Track3D;
 use types::tracker::Cartesian3DTracker;
 
-// Whether a step on a track was carried out, and the track after it, as it was where the step is refused.
-#[derive(Clone, Copy)]
-pub struct TrackStep {
-    pub outcome: Result<(), Refusal>,
-    pub track: Track3D,
-}
-
-// The same for the whole tracker.
-#[derive(Clone, Copy)]
-pub struct TrackerStep {
-    pub outcome: Result<(), Refusal>,
-    pub tracker: Cartesian3DTracker,
-}
-
-// A track with the life that a time leaves it, and whether it goes on.
+// A track with the life that a time leaves it, and whether it goes on. No Option: the life as it is left is told of a track that goes too, so both fields always count.
 #[derive(Clone, Copy)]
 pub struct AgedTrack {
     pub track: Track3D,
@@ -49,103 +34,50 @@ pub fn advance_track(mut t: Track3D, at: i64, life: LifecycleConfig) -> AgedTrac
     aged_with(t, verdict)
 }
 
-// The track with the filter that a step leaves, at its time.
-fn keep(x: Track3D, step: filter::Step, time: i64) -> TrackStep
-    ensures { TrackAnswers x result (and_then (reply_of_step step) (λ f. given (with_timestamp time (with_filter f x)))) }
-{
-    let outcome = step.outcome;
-    let filter = step.filter;
-    match outcome {
-        Ok(()) => TrackStep {
-            outcome: Ok(()),
-            track: types::track::with_state_timestamp(types::track::with_filter(x, filter), time),
-        },
-        Err(why) => TrackStep {
-            outcome: Err(types::refusal::of_matrix(why)),
-            track: x,
-        },
-    }
-}
-
 // The track moved by dt nanoseconds, to the time.
-fn move_by(x: Track3D, dt: i64, time: i64, density: f64) -> TrackStep
-    ensures { TrackAnswers x result (moved_by density time x dt) }
+fn move_by(x: Track3D, dt: i64, time: i64, density: f64) -> Result<Track3D, Refusal>
+    ensures { reply_by number_of result ≡ moved_by density time x dt }
 {
-    let filter = x.filter;
-    keep(
-        x,
-        filter::predict(filter, number::time::seconds(dt), density),
-        time,
-    )
+    let before = x.filter;
+    let filter = filter::predict(before, number::time::seconds(dt), density)?;
+    let moved = types::track::with_filter(x, filter);
+    Ok(types::track::with_state_timestamp(moved, time))
 }
 
 // The track moved to the time by its filter, where it isn't there already.
-pub fn move_track(x: Track3D, time: i64, density: f64) -> TrackStep
-    ensures { TrackAnswers x result (moved density time x) }
+pub fn move_track(x: Track3D, time: i64, density: f64) -> Result<Track3D, Refusal>
+    ensures { reply_by number_of result ≡ moved density time x }
 {
     if x.state_timestamp == time {
-        return TrackStep {
-            outcome: Ok(()),
-            track: x,
-        };
+        return Ok(x);
     }
-    match number::time::checked_duration_since(time, x.state_timestamp) {
-        None => TrackStep {
-            outcome: Err(Refusal::TimestampOverflow),
-            track: x,
-        },
-        Some(dt) => move_by(x, dt, time, density),
-    }
+    let Some(dt) = number::time::checked_duration_since(time, x.state_timestamp) else {
+        return Err(Refusal::TimestampOverflow);
+    };
+    move_by(x, dt, time, density)
 }
 
-// What becomes of a track at a later time.
-#[derive(Clone, Copy)]
-pub enum Fate {
-    Dropped,
-    Kept,
-    Refused(Refusal),
-}
-
-// With the track that it leaves, where it is kept.
-#[derive(Clone, Copy)]
-pub struct Carried {
-    pub fate: Fate,
-    pub track: Track3D,
-}
-
-// The track at the time, where its life keeps it.
-pub fn carry(x: Track3D, time: i64, life: LifecycleConfig, density: f64) -> Carried
-    ensures { fate_of result.fate result.track ≡ carried life density time x }
+// The track at the time, or none where its life ends there.
+pub fn carry(
+    x: Track3D,
+    time: i64,
+    life: LifecycleConfig,
+    density: f64,
+) -> Result<Option<Track3D>, Refusal>
+    ensures { reply_by number_of result ≡ carried life density time x }
 {
     let aged = advance_track(x, time, life);
     let verdict = aged.verdict;
-    let y = aged.track;
+    let track = aged.track;
     match verdict {
-        Verdict::Dropped => Carried {
-            fate: Fate::Dropped,
-            track: y,
-        },
-        Verdict::Kept => {
-            let step = move_track(y, time, density);
-            let outcome = step.outcome;
-            let track = step.track;
-            match outcome {
-                Err(why) => Carried {
-                    fate: Fate::Refused(why),
-                    track,
-                },
-                Ok(()) => Carried {
-                    fate: Fate::Kept,
-                    track,
-                },
-            }
-        }
+        Verdict::Dropped => Ok(None),
+        Verdict::Kept => Ok(Some(move_track(track, time, density)?)),
     }
 }
 
 // The tracks at the time: those that their lives drop are gone, and the others are moved to it.
-pub fn move_tracks(s: Cartesian3DTracker, time: i64) -> TrackerStep
-    ensures { TrackerAnswers s result (moved_tracks s time) }
+pub fn move_tracks(s: Cartesian3DTracker, time: i64) -> Result<Cartesian3DTracker, Refusal>
+    ensures { reply_by number_of result ≡ moved_tracks s time }
 {
     let config = s.config;
     let life = config.lifecycle;
@@ -154,28 +86,15 @@ pub fn move_tracks(s: Cartesian3DTracker, time: i64) -> TrackerStep
     let mut tracks = s.tracks;
     let mut kept: usize = 0;
     for i in 0..n {
-        let c = carry(tracks[i], time, life, density);
-        match c.fate {
-            Fate::Dropped => {}
-            Fate::Refused(why) => {
-                return TrackerStep {
-                    outcome: Err(why),
-                    tracker: s,
-                };
-            }
-            Fate::Kept => {
-                tracks[kept] = c.track;
-                kept += 1;
-            }
+        if let Some(track) = carry(tracks[i], time, life, density)? {
+            tracks[kept] = track;
+            kept += 1;
         }
     }
     let mut moved = s;
     moved.tracks = tracks;
     moved.track_count = kept;
-    TrackerStep {
-        outcome: Ok(()),
-        tracker: moved,
-    }
+    Ok(moved)
 }
 
 // The tracker with the last time that it has seen.

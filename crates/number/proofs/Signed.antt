@@ -1,5 +1,5 @@
 -- Signed numbers as code has them, by their bits, are the integers. Assumes nothing.
-use Rattle.std.proofs.Common.{◌≡◌, Bool, true, false, ℤ, pos, negsuc, ◌+ℤ◌, ◌-ℤ◌, sym, refl, ap, ◌∙◌, subst, true≢false, to_z-of_z, w64, SFits, to_z, of_z, eq-eqb, eqb-true}
+use Rattle.std.proofs.Common.{◌≡◌, Bool, true, false, ℤ, pos, negsuc, sym, refl, ap, ◌∙◌, subst, true≢false, to_z-of_z, w64, SFits, to_z, of_z, eq-eqb, eqb-true}
 use lib.Signed.{lt_z}
 use Rattle.number.specs.Time.{same_time}
 
@@ -8,17 +8,6 @@ pub lt_of : {b : Bool} (x y : ℤ) → SFits w64 x → SFits w64 y → lt_z (to_
 lt_of x y f g e = rw (to_z-of_z f, to_z-of_z g) at e
 
 -- a test of a sum with a literal, as code has it
-pub sum_lt_of : {b : Bool} (m z y : ℤ) → SFits w64 z → SFits w64 y → SFits w64 (m +ℤ z)
-    → lt_z (to_z w64 (of_z w64 (m +ℤ to_z w64 (of_z w64 z)))) (to_z w64 (of_z w64 y)) ≡ b → lt_z (m +ℤ z) y ≡ b
-sum_lt_of m z y f g h e = rw (to_z-of_z f, to_z-of_z h, to_z-of_z g) at e
-
-pub lt_sum_of : {b : Bool} (m z y : ℤ) → SFits w64 z → SFits w64 y → SFits w64 (m +ℤ z)
-    → lt_z (to_z w64 (of_z w64 y)) (to_z w64 (of_z w64 (m +ℤ to_z w64 (of_z w64 z)))) ≡ b → lt_z y (m +ℤ z) ≡ b
-lt_sum_of m z y f g h e = rw (to_z-of_z f, to_z-of_z h, to_z-of_z g) at e
-
-pub diff_of : (x y : ℤ) → SFits w64 x → SFits w64 y → SFits w64 (x -ℤ y) → to_z w64 (of_z w64 (to_z w64 (of_z w64 x) -ℤ to_z w64 (of_z w64 y))) ≡ x -ℤ y
-diff_of x y f g h = rw (to_z-of_z f, to_z-of_z g, to_z-of_z h)
-
 -- ---- equal bits are equal numbers
 same_true : (x y : ℤ) → same_time x y ≡ true → x ≡ y
 same_true (pos a) (pos b) e = ap pos (eqb-true a b e)

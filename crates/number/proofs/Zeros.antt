@@ -1,5 +1,5 @@
 -- Comparisons of a finite value with zero. Assumes nothing.
-use Rattle.std.proofs.Common.{◌≡◌, ℕ, zero, suc, ◌+◌, ◌*◌, ◌<◌, Bool, true, false, ◌&&◌, ℤ, sym, refl, ap, ◌∙◌, true≢false, zero-lt-suc, mul-pos, zero-mul, arith, ltb-false, ltb-true, eqb-true}
+use Rattle.std.proofs.Common.{◌≡◌, ℕ, zero, suc, ◌*◌, ◌<◌, Bool, true, false, ◌&&◌, ℤ, sym, refl, ap, ◌∙◌, true≢false, zero-lt-suc, mul-pos, zero-mul, arith, ltb-false, ltb-true, eqb-true}
 use lib.Ieee.{fin, binary64, up, down, level, lt, eq, of_bits}
 use lib.Ieee.Fits.{up_pos}
 
@@ -35,10 +35,6 @@ zero_equal s e = ap (λ (x : ℕ). level s x false (0 * 1 * down e)) (none e) �
 pub positive_not_below {ℓ} : {A : Type ℓ} (m : ℕ) (e : ℤ) → lt (fin false m e) (of_bits binary64 0) ≡ true → A
 unfolding lt of_bits
 positive_not_below m e h = absurd (omega (arith, ltb-true (m * up e * 1) (0 * 1 * down e) h, zero_side e))
-
-pub negative_below {ℓ} : {A : Type ℓ} (m : ℕ) (e : ℤ) → lt (fin true (suc m) e) (of_bits binary64 0) ≡ false → A
-unfolding lt of_bits
-negative_below m e h = absurd (omega (arith, ltb-false 0 (suc m * up e * 1 + 0 * 1 * down e) h, some m e))
 
 pub positive_above {ℓ} : {A : Type ℓ} (m : ℕ) (e : ℤ) → lt (of_bits binary64 0) (fin false (suc m) e) ≡ false → A
 unfolding lt of_bits

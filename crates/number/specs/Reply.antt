@@ -1,9 +1,21 @@
 -- What a call answers, in 01's terms: the number of the refusal, or the value. Every answer that is an enum is stated through it.
-use Rattle.std.specs.Prelude.{ℕ, Bool, true, false}
+use Rattle.std.specs.Prelude.{ℕ, Bool, true, false, Option, Some, None, Result, Ok, Err}
 
 pub data Reply (A : Type 0) : Type 0 where
   refused : ℕ → Reply A
   given : A → Reply A
+
+-- ---- what code answers, as a reply
+
+-- a `Result`, whose errors have these numbers
+abbrev pub reply_by : {A E : Type 0} → (E → ℕ) → Result A E → Reply A
+reply_by number (Ok a) = given a
+reply_by number (Err e) = refused (number e)
+
+-- an `Option`, of which 01 has one number where there is no value
+abbrev pub reply_or : {A : Type 0} → ℕ → Option A → Reply A
+reply_or n (Some a) = given a
+reply_or n None = refused n
 
 -- ---- replies that are made step by step: the first refusal is the answer
 

@@ -1,9 +1,9 @@
 -- Times and durations in nanoseconds, over the integers.
-use Rattle.std.specs.Prelude.{◌^◌, Bool, false, cond, ℤ, pos, negsuc, ◌-ℤ◌, ◌==◌, from_bits, nat_lt, Float, None, Option, Some}
+use Rattle.std.specs.Prelude.{◌^◌, Bool, false, cond, ℤ, pos, negsuc, ◌-ℤ◌, ◌==◌, from_bits, nat_lt, Float, Option}
 use Rattle.std.specs.Int.Signed.{mag}
 use Rattle.std.specs.Float.{binary64}
 use Rattle.std.specs.Float.Ieee.{div, of_int}
-use Rattle.number.specs.Reply.{Reply, refused, given}
+use Rattle.number.specs.Reply.{Reply, refused, given, reply_or}
 
 -- 01, Number and root: "Nanoseconds become seconds by one rounding to binary64 and one division by 1,000,000,000."
 abbrev pub seconds_of : ℤ → Float
@@ -14,8 +14,7 @@ unfoldable pub duration_reply : ℤ → ℤ → Reply ℤ
 duration_reply now earlier = cond (nat_lt (mag (now -ℤ earlier)) (2 ^ 63)) (given (now -ℤ earlier)) (refused 8)
 
 abbrev pub reply_of_duration : Option ℤ → Reply ℤ
-reply_of_duration (Some d) = given d
-reply_of_duration None = refused 8
+reply_of_duration d = reply_or 8 d
 
 -- 01, Lifecycle: "Age is now minus last observation (or creation); a negative or overflowing age counts as 0."
 abbrev pub counted : Reply ℤ → ℤ

@@ -9,21 +9,12 @@ pub fn seconds(nanoseconds: i64) -> f64
     std::num::nearest_i64_to_f64(nanoseconds) / 1000000000.0
 }
 
-// now - earlier, where an i64 holds it. Each branch compares before it subtracts.
+// now - earlier, where an i64 holds it.
+#[tactic(auto, using(crate::proofs::Durations::checked))]
 pub fn checked_duration_since(now: i64, earlier: i64) -> Option<i64>
     ensures { reply_of_duration result ≡ duration_reply now earlier }
 {
-    if earlier < 0 {
-        if 9223372036854775807 + earlier < now {
-            None
-        } else {
-            Some(now - earlier)
-        }
-    } else if now < -9223372036854775808 + earlier {
-        None
-    } else {
-        Some(now - earlier)
-    }
+    now.checked_sub(earlier)
 }
 
 // How long ago `since` was at `now`; 0 where it lies ahead or the difference overflows.

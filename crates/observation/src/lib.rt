@@ -1,4 +1,5 @@
 // What a measurement sees of a state: the products with its matrix H, which selects N items from FROM on. Of a plain covariance they are read off, bit for bit what the products give; else they are worked out.
+// The generic functions ask N + FROM ≤ 6, which no type says of two const parameters; the six of position and velocity name an instance, and ask nothing.
 #![tactic(auto)]
 
 ghost use Rattle.std.specs.Prelude.{◌≡◌, ◌<◌, ◌≤◌, ◌+◌};
@@ -110,7 +111,7 @@ fn cross<const N: usize, const FROM: usize>(p: [[f64; 6]; 6]) -> [[f64; N]; 6]
     }
 }
 
-// The position in a state: H x.
+// The position in a state: H x. This and the five below are instances by name: they ask nothing, where the functions above ask that what H selects lies in a state.
 pub fn position(x: [f64; 6]) -> [f64; 3]
     ensures { result ≡ times_vector 3 6 (selection 3 6 0) x }
 {

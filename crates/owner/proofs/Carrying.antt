@@ -1,6 +1,6 @@
--- The loop that moves the tracks of the record: what it has done by track i, or the refusal that it ended with. Assumes nothing.
+-- The loops that move the tracks of the record: the laws of a turn, and what a prediction has at the end. Assumes nothing.
 use Rattle.std.specs.Prelude.{None, Option, Some}
-use mathlib.Core.Path.{◌≡◌, refl, sym, ap, ◌∙◌}
+use mathlib.Core.Path.{◌≡◌, sym, ap, ◌∙◌}
 use mathlib.Core.List.{List, map}
 use Prim.Native.Nat.{ℕ, min, ◌+◌, ◌≤◌, ◌<◌}
 use native.Mathlib.Omega.{arith}
@@ -18,7 +18,7 @@ use Rattle.types.specs.declared.track.Track3D.{Track3D}
 use Rattle.types.specs.States.{state_of, tracks_of}
 use Rattle.calls.specs.Predict.{continued, moved, predicted_tracks}
 use Rattle.moving.specs.Steps.{carried}
-use Rattle.moving.proofs.Passing.{Passed, passed_start, passed_drop, passed_keep, passed_stops}
+use Rattle.moving.proofs.Passing.{Passed, passed_drop, passed_keep, passed_stops}
 use Rattle.moving.proofs.Tracks.{drops, keeps, stops}
 use Rattle.records.specs.declared.tracks.PkTrack.{PkTrack}
 use Rattle.records.specs.declared.tracker.PkTracker.{PkTracker}
@@ -32,47 +32,26 @@ module _ (life : LifecycleConfig) (q : Float) (now : ℤ) where
   abbrev pub keeps_pk : PkTrack → Option PkTrack
   keeps_pk a = kept_as track_of track_to (continued life now (track_of a))
 
-  abbrev pub moves_pk : PkTrack → Reply PkTrack
-  moves_pk a = stored_as track_of track_to (moved q now (track_of a))
+  -- a track moved, and what is done to it after that
+  module _ (after : Reply Track3D → Reply Track3D) where
+    abbrev pub moves_pk : PkTrack → Reply PkTrack
+    moves_pk a = stored_as track_of track_to (after (moved q now (track_of a)))
 
-  -- of l's first i tracks those that stay were moved, into m's first j; or one was refused, and the loop is at its end
-  pub data Carrying (l m : List PkTrack) (i j all start code : ℕ) : Type 0 where
-    going : code ≡ start → Passed keeps_pk moves_pk l m i j → Carrying l m i j all start code
-    ended : i ≡ all → 0 < code → each moves_pk (sift keeps_pk (take all l)) ≡ refused code → Carrying l m i j all start code
+    module _ (l m : List PkTrack) (i j : ℕ) (a : PkTrack) (p : Passed keeps_pk moves_pk l m i j) where
+      pub carrying_drop : i < length l → carried life q now (track_of (get_or m i a)) ≡ given None → Passed keeps_pk moves_pk l m (i + 1) j
+      carrying_drop h e = passed_drop keeps_pk moves_pk l m i j a p h (ap (kept_as track_of track_to) (drops life q now (track_of (get_or m i a)) e))
 
-  pub carrying_start : (l : List PkTrack) (all start : ℕ) → Carrying l l 0 0 all start start
-  carrying_start l all start = going refl (passed_start keeps_pk moves_pk l)
-
-  module _ (l m : List PkTrack) (i j all start code : ℕ) (a : PkTrack) (h : i < all) (room : all ≤ length l) where
-    -- what a turn finds: the loop goes on
-    pub still : Carrying l m i j all start code → (code ≡ start) × Passed keeps_pk moves_pk l m i j
-    still (going e p) = (e, p)
-    still (ended e above r) = absurd (omega arith)
-
-    module _ (s : Carrying l m i j all start code) where
-      pub carrying_drop : carried life q now (track_of (get_or m i a)) ≡ given None → Carrying l m (i + 1) j all start code
-      carrying_drop e =
-          let w = still s in
-          going w.0 (passed_drop keeps_pk moves_pk l m i j a w.1 (omega arith) (ap (kept_as track_of track_to) (drops life q now (track_of (get_or m i a)) e)))
-
-      pub carrying_keep : (z : Track3D) → carried life q now (track_of (get_or m i a)) ≡ given (Some z) → Carrying l (set m j (track_to z)) (i + 1) (j + 1) all start code
-      carrying_keep z e =
-          let w = still s in
+      pub carrying_keep : (z y : Track3D) → i < length l → carried life q now (track_of (get_or m i a)) ≡ given (Some z) → after (given z) ≡ given y → Passed keeps_pk moves_pk l (set m j (track_to y)) (i + 1) (j + 1)
+      carrying_keep z y h e w =
           let k = keeps life q now (track_of (get_or m i a)) z e in
-          going w.0 (passed_keep keeps_pk moves_pk l m i j a (track_to k.aged) (track_to z) w.1 (omega arith) (ap (kept_as track_of track_to) k.goes_on)
-          (ap (λ (x : Track3D). stored_as track_of track_to (moved q now x)) (track_back k.aged) ∙ ap (stored_as track_of track_to) k.moves))
+          passed_keep keeps_pk moves_pk l m i j a (track_to k.aged) (track_to y) p h (ap (kept_as track_of track_to) k.goes_on)
+          (ap (λ (x : Track3D). stored_as track_of track_to (after (moved q now x))) (track_back k.aged) ∙ ap (λ (r : Reply Track3D). stored_as track_of track_to (after r)) k.moves ∙ ap (stored_as track_of track_to) w)
 
-      pub carrying_stops : (n : ℕ) → carried life q now (track_of (get_or m i a)) ≡ refused n → each moves_pk (sift keeps_pk (take all l)) ≡ refused n
-      carrying_stops n e =
-          let w = still s in
+      pub carrying_stops : (all n : ℕ) → i < all → all ≤ length l → carried life q now (track_of (get_or m i a)) ≡ refused n → after (refused n) ≡ refused n → each moves_pk (sift keeps_pk (take all l)) ≡ refused n
+      carrying_stops all n h room e w =
           let k = stops life q now (track_of (get_or m i a)) n e in
-          passed_stops keeps_pk moves_pk l m all i j a (track_to k.aged) n w.1 h room (ap (kept_as track_of track_to) k.goes_on)
-          (ap (λ (x : Track3D). stored_as track_of track_to (moved q now x)) (track_back k.aged) ∙ ap (stored_as track_of track_to) k.moves)
-
-  -- no track is refused where there is none
-  pub nothing : (n : ℕ) (l : List PkTrack) → each moves_pk (sift keeps_pk (take 0 l)) ≡ refused n → ⊥
-  unfolding each sift
-  nothing n l e = let k : ◌≡◌ {A = ℕ} 0 1 = cc in absurd (omega arith)
+          passed_stops keeps_pk moves_pk l m all i j a (track_to k.aged) n p h room (ap (kept_as track_of track_to) k.goes_on)
+          (ap (λ (x : Track3D). stored_as track_of track_to (after (moved q now x))) (track_back k.aged) ∙ ap (λ (r : Reply Track3D). stored_as track_of track_to (after r)) k.moves ∙ ap (stored_as track_of track_to) w)
 
 -- ---- the end
 
@@ -81,7 +60,7 @@ module _ (t : PkTracker) (now : ℤ) (n : ℕ) (size : length t.tracks ≡ 64) (
   keep = keeps_pk (settings_of t.settings).lifecycle (settings_of t.settings).accel_spectral_density now
 
   abbrev move : PkTrack → Reply PkTrack
-  move = moves_pk (settings_of t.settings).lifecycle (settings_of t.settings).accel_spectral_density now
+  move = moves_pk (settings_of t.settings).lifecycle (settings_of t.settings).accel_spectral_density now (λ r. r)
 
   pub tracks_held : map track_of (take n t.tracks) ≡ (pk_state t).tracks
   unfolding state_of tracks_of tracker_of

@@ -1,13 +1,12 @@
 -- What the three loops of a batch hand to each other, and what the whole answers. Assumes nothing.
-use Rattle.std.specs.Prelude.{Ok, Option, Some}
-use mathlib.Core.Path.{◌≡◌, refl, sym, ap, subst, ◌∙◌}
+use Rattle.std.specs.Prelude.{Option, Some}
+use mathlib.Core.Path.{◌≡◌, refl, sym, ap, ◌∙◌}
 use mathlib.Core.List.{List, [], ◌∷◌, ◌++◌, map}
 use Prim.Native.Nat.{ℕ, ◌+◌, ◌≤◌, ◌<◌}
 use native.Mathlib.Omega.{arith}
 use lib.IntN.{ℤ}
 use lib.ListN.{length, take, set, replicate, length-map}
-use Rattle.number.specs.Reply.{Reply, refused, given}
-use Rattle.number.proofs.Replies.{never_given, given_same}
+use Rattle.number.specs.Reply.{refused, given}
 use Rattle.lists.specs.Lay.{lay}
 use Rattle.lists.proofs.Laying.{take_lay, lay_own}
 use Rattle.lists.proofs.Filling.{map_append}
@@ -15,17 +14,14 @@ use Rattle.kuhn_munkres.specs.Takers.{taken_by}
 use Rattle.detections.specs.declared.Detection.{Detection}
 use Rattle.types.specs.declared.batch.ObservationBatch3D.{ObservationBatch3D}
 use Rattle.types.specs.declared.batch.BatchReport3D.{BatchReport3D}
-use Rattle.types.specs.declared.refusal.Refusal.{Refusal}
 use Rattle.types.specs.declared.track.Track3D.{Track3D}
 use Rattle.types.specs.declared.tracker.BirthCandidate.{BirthCandidate}
-use Rattle.types.specs.Refusals.{number_of}
 use Rattle.types.specs.Batches.{whole_report}
 use Rattle.types.specs.States.{State, state_of, sequences_of, candidates_of}
 use Rattle.batches.specs.Check.{batch_reply}
 use Rattle.calls.specs.Predict.{at_time}
 use Rattle.calls.specs.Births.{remaining, with_candidates, confirmed_places}
 use Rattle.calls.specs.Process.{Done}
-use Rattle.calls.specs.Answers.{verdict_on, report_after}
 use Rattle.association.specs.Told.{Listed}
 use Rattle.association.proofs.Telling.{unmatched_few}
 use Rattle.association.proofs.Ties.{listed_told}
@@ -43,8 +39,7 @@ use Rattle.records.specs.Tracks.{track_of, track_to}
 use Rattle.records.specs.Configs.{settings_of}
 use Rattle.records.specs.Trackers.{tracker_of, pk_state, pk_over}
 use Rattle.records.proofs.Back.{track_back, tracks_back}
-use Rattle.owner.specs.declared.batch.Ran.{Ran}
-use Rattle.owner.specs.Processes.{refused_with, batch_reply_on, Processes}
+use Rattle.owner.specs.Processes.{batch_reply_on, after_batch}
 use Rattle.owner.proofs.Through.{map_take}
 use Rattle.owner.proofs.Predicting.{with_pk_tracks}
 use Rattle.owner.proofs.Noting.{take_set}
@@ -65,18 +60,12 @@ candidates_held t x timeout now e = λ i. remaining timeout now (take (e i).cand
 
 -- ---- the answers
 
-pub batch_refuses : (t x : PkTracker) (b : ObservationBatch3D) (why : Refusal) (r : Ran) → r ≡ refused_with x why → batch_reply_on t b ≡ refused (number_of why) → Processes t b r
-batch_refuses t x b why r q e =
-    subst (Processes t b) (sym q) (record { is = sym (ap verdict_on e); reported = sym (ap report_after e); whole = λ d h. never_given (number_of why) d (sym e ∙ h) })
+pub batch_refuses : (t : PkTracker) (b : ObservationBatch3D) (n : ℕ) → batch_reply_on t b ≡ refused n → refused n ≡ after_batch t (batch_reply_on t b)
+batch_refuses t b n e = sym (ap (after_batch t) e)
 
 pub batch_carried : (t u : PkTracker) (b : ObservationBatch3D) (report : BatchReport3D) (d : Done) → batch_reply_on t b ≡ given d → u ≡ pk_over t d.state → report ≡ whole_report d.report
-    → Processes t b (record { tracker = u; outcome = Ok tt; report = report })
-batch_carried t u b report d e eu er =
-    record {
-      is = sym (ap verdict_on e);
-      reported = er ∙ sym (ap report_after e);
-      whole = λ x h. eu ∙ ap (λ (y : Done). pk_over t y.state) (given_same d x (sym e ∙ h));
-    }
+    → given (record { tracker = u; report = report }) ≡ after_batch t (batch_reply_on t b)
+batch_carried t u b report d e eu er = (λ i. given (record { tracker = eu i; report = er i })) ∙ sym (ap (after_batch t) e)
 
 -- ---- tracks that stand in front of an array, as the record has them and as they are meant
 
@@ -126,6 +115,5 @@ places_are p spots near s = placed (record { items = spots; count = near }) (con
 pub numbers_listed : (l ids : List ℕ) (count : ℕ) → Listed l ids count → ids ≡ lay (take count ids) (replicate 64 0)
 numbers_listed l ids count h = h.slots ∙ ap (λ (q : List ℕ). lay q (replicate 64 0)) (sym (listed_told l ids count h))
 
-pub few_numbers : (ts : List Track3D) (ds : List Detection) (reply : Reply (List (Option ℕ))) (ids : List ℕ) (count : ℕ) → length ts ≤ 64 → Listed (unmatched_in ts ds reply) ids count → count ≤ 64
-few_numbers ts ds (refused n) ids count h l = omega (arith, l.many)
-few_numbers ts ds (given takers) ids count h l = omega (arith, l.many, unmatched_few (taken_by takers ds) 0 ts)
+pub few_numbers : (ts : List Track3D) (ds : List Detection) (takers : List (Option ℕ)) (ids : List ℕ) (count : ℕ) → length ts ≤ 64 → Listed (unmatched_in ts ds takers) ids count → count ≤ 64
+few_numbers ts ds takers ids count h l = omega (arith, l.many, unmatched_few (taken_by takers ds) 0 ts)

@@ -1,13 +1,12 @@
 -- The loop of a batch that moves the tracks of the record, clears their marks and notes what the pairing reads of each. Assumes nothing.
-use Rattle.std.specs.Prelude.{None, Some}
 use mathlib.Core.Path.{◌≡◌, refl, sym, ap, ◌∙◌}
 use mathlib.Core.Bool.{false}
 use mathlib.Core.List.{List, [], ◌∷◌, ◌++◌, map}
-use Prim.Native.Nat.{ℕ, min, ◌+◌, ◌≤◌, ◌<◌}
+use Prim.Native.Nat.{ℕ, min, ◌+◌, ◌<◌}
 use native.Mathlib.Omega.{arith}
 use lib.IntN.{ℤ}
 use lib.Ieee.{Float}
-use lib.ListN.{length, take, get_or, set, replicate, length-map, length-append}
+use lib.ListN.{length, take, set, replicate, length-map, length-append}
 use lib.Seq.{length-take-le}
 use Rattle.number.specs.Reply.{Reply, refused, given, and_then}
 use Rattle.number.proofs.Replies.{bound, given_same}
@@ -22,17 +21,16 @@ use Rattle.types.specs.Track.{with_mark}
 use Rattle.calls.specs.Predict.{continued, moved, predicted_tracks}
 use Rattle.pairing.specs.declared.Row.{Row}
 use Rattle.pairing.specs.Rows.{row_of, blank_row}
-use Rattle.moving.specs.Steps.{carried}
-use Rattle.moving.proofs.Passing.{Passed, passed_drop, passed_keep, passed_stops}
-use Rattle.moving.proofs.Tracks.{refused_before, drops, keeps, stops}
+use Rattle.moving.proofs.Passing.{Passed}
+use Rattle.moving.proofs.Tracks.{refused_before}
 use Rattle.records.specs.declared.tracks.PkTrack.{PkTrack}
 use Rattle.records.specs.declared.tracker.PkTracker.{PkTracker}
 use Rattle.records.specs.Tracks.{track_of, track_to}
 use Rattle.records.specs.Configs.{settings_of}
 use Rattle.records.specs.Trackers.{pk_state}
 use Rattle.records.proofs.Back.{track_back}
-use Rattle.owner.proofs.Through.{kept_as, stored_as, sift_through}
-use Rattle.owner.proofs.Carrying.{keeps_pk, tracks_held}
+use Rattle.owner.proofs.Through.{sift_through}
+use Rattle.owner.proofs.Carrying.{keeps_pk, moves_pk, tracks_held}
 
 -- ---- what the pairing reads
 
@@ -63,29 +61,12 @@ noted_more m rows j x h g e =
 
 -- ---- the tracks
 
-module _ (life : LifecycleConfig) (q : Float) (now : ℤ) where
-  -- moved, and with no mark
-  abbrev pub clears : Track3D → Reply Track3D
-  clears t = and_then (moved q now t) (λ u. given (with_mark false u))
+-- moved, and with no mark
+abbrev pub unmarked : Reply Track3D → Reply Track3D
+unmarked r = and_then r (λ u. given (with_mark false u))
 
-  abbrev pub clears_pk : PkTrack → Reply PkTrack
-  clears_pk a = stored_as track_of track_to (clears (track_of a))
-
-  module _ (l m : List PkTrack) (i j : ℕ) (a : PkTrack) (p : Passed (keeps_pk life q now) clears_pk l m i j) where
-    pub clearing_drop : i < length l → carried life q now (track_of (get_or m i a)) ≡ given None → Passed (keeps_pk life q now) clears_pk l m (i + 1) j
-    clearing_drop h e = passed_drop (keeps_pk life q now) clears_pk l m i j a p h (ap (kept_as track_of track_to) (drops life q now (track_of (get_or m i a)) e))
-
-    pub clearing_keep : (z : Track3D) → i < length l → carried life q now (track_of (get_or m i a)) ≡ given (Some z) → Passed (keeps_pk life q now) clears_pk l (set m j (track_to (with_mark false z))) (i + 1) (j + 1)
-    clearing_keep z h e =
-        let k = keeps life q now (track_of (get_or m i a)) z e in
-        passed_keep (keeps_pk life q now) clears_pk l m i j a (track_to k.aged) (track_to (with_mark false z)) p h (ap (kept_as track_of track_to) k.goes_on)
-        (ap (λ (x : Track3D). stored_as track_of track_to (clears x)) (track_back k.aged) ∙ ap (λ (r : Reply Track3D). stored_as track_of track_to (and_then r (λ u. given (with_mark false u)))) k.moves)
-
-    pub clearing_stops : (all n : ℕ) → i < all → all ≤ length l → carried life q now (track_of (get_or m i a)) ≡ refused n → each clears_pk (sift (keeps_pk life q now) (take all l)) ≡ refused n
-    clearing_stops all n h room e =
-        let k = stops life q now (track_of (get_or m i a)) n e in
-        passed_stops (keeps_pk life q now) clears_pk l m all i j a (track_to k.aged) n p h room (ap (kept_as track_of track_to) k.goes_on)
-        (ap (λ (x : Track3D). stored_as track_of track_to (clears x)) (track_back k.aged) ∙ ap (λ (r : Reply Track3D). stored_as track_of track_to (and_then r (λ u. given (with_mark false u)))) k.moves)
+abbrev pub clears_pk : LifecycleConfig → Float → ℤ → PkTrack → Reply PkTrack
+clears_pk life q now = moves_pk life q now unmarked
 
 -- ---- the end
 
@@ -114,8 +95,8 @@ module _ (t : PkTracker) (now : ℤ) (n : ℕ) (size : length t.tracks ≡ 64) (
   all_through : each (clears_pk life density now) (sift (keeps_pk life density now) (take n t.tracks)) ≡ and_then (and_then predicted (λ ms. given (map (with_mark false) ms))) (λ ts. given (map track_to ts))
   unfolding predicted_tracks
   all_through =
-      sift_through track_of track_to track_back (continued life now) (clears life density now) (take n t.tracks)
-      ∙ ap (λ (l : List Track3D). and_then (each (clears life density now) (sift (continued life now) l)) (λ ts. given (map track_to ts))) (tracks_held t now n size taken)
+      sift_through track_of track_to track_back (continued life now) (λ x. unmarked (moved density now x)) (take n t.tracks)
+      ∙ ap (λ (l : List Track3D). and_then (each (λ x. unmarked (moved density now x)) (sift (continued life now) l)) (λ ts. given (map track_to ts))) (tracks_held t now n size taken)
       ∙ ap (λ (r : Reply (List Track3D)). and_then r (λ ts. given (map track_to ts))) (each_after (moved density now) (with_mark false) (sift (continued life now) (pk_state t).tracks))
 
   pub moves_refused : (k : ℕ) → each (clears_pk life density now) (sift (keeps_pk life density now) (take n t.tracks)) ≡ refused k → predicted ≡ refused k

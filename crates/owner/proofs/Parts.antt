@@ -1,5 +1,5 @@
 -- A batch on the record by its parts: what a refusal of each says of the whole, and what the record and the report are where none refuses. Assumes nothing.
-use Rattle.std.specs.Prelude.{Err, Ok, Option, pos, unwrap_or}
+use Rattle.std.specs.Prelude.{Err, Ok, Option, Result, pos, unwrap_or}
 use mathlib.Core.Path.{◌≡◌, refl, sym, ap, ◌∙◌}
 use mathlib.Core.Bool.{true, false}
 use mathlib.Core.List.{List, map}
@@ -93,16 +93,18 @@ module _ (t : PkTracker) (b : ObservationBatch3D) where
 
     -- ---- the pairing, of the tracks in the first n places of an array
 
-    module _ (ms : List Track3D) (moves : predicted ≡ given ms) (array : List Track3D) (n : ℕ) (st : length array ≡ 64) (sd : length b.observations ≡ 64) (front : take n array ≡ map (with_mark false) ms) (p : Paired)
-        (a : Matches (pair_config c) (take n array) ds (takers_for (pair_config c) (c.recent_track_window_ns) b.timestamp (take n array) ds) p) where
+    module _ (ms : List Track3D) (moves : predicted ≡ given ms) (array : List Track3D) (n : ℕ) (st : length array ≡ 64) (sd : length b.observations ≡ 64) (front : take n array ≡ map (with_mark false) ms) where
+      abbrev pub Told : Result Paired Refusal → Type 0
+      Told = Matches (pair_config c) (take n array) ds (takers_for (pair_config c) (c.recent_track_window_ns) b.timestamp (take n array) ds)
+
       by_rest : reply ≡ rest (take n array)
       by_rest = by_moved ∙ ap (λ (r : Reply (List Track3D)). and_then r (λ ms. rest (map (with_mark false) ms))) moves ∙ ap rest (sym front)
 
-      pub pair_refused : (why : Refusal) → p.outcome ≡ Err why → reply ≡ refused (number_of why)
-      pair_refused why h =
-          by_rest ∙ ap (λ (r : Reply Matched). and_then r (finished c s b)) (stage_refused c b.sensor_id b.timestamp array n b.observations b.count st sd p a why h)
+      pub pair_refused : (why : Refusal) → Told (Err why) → reply ≡ refused (number_of why)
+      pair_refused why a =
+          by_rest ∙ ap (λ (r : Reply Matched). and_then r (finished c s b)) (stage_refused c b.sensor_id b.timestamp array n b.observations b.count st sd why a)
 
-      module _ (paired : p.outcome ≡ Ok tt) where
+      module _ (p : Paired) (a : Told (Ok p)) where
         abbrev pub took : ℕ → Option Detection
         took = mate_of p.mates b.observations
 
@@ -121,10 +123,10 @@ module _ (t : PkTracker) (b : ObservationBatch3D) where
         by_updated : reply ≡ and_then updated (λ us. finished c s b (told us))
         by_updated =
             by_rest
-            ∙ ap (λ (r : Reply Matched). and_then r (finished c s b)) (stage_given c b.sensor_id b.timestamp array n b.observations b.count st sd p a paired)
+            ∙ ap (λ (r : Reply Matched). and_then r (finished c s b)) (stage_given c b.sensor_id b.timestamp array n b.observations b.count st sd p a)
             ∙ go (updates c b.sensor_id b.timestamp took (take n array))
             ∙ ap (λ (r : Reply (List Track3D)). and_then r (λ us. finished c s b (told us)))
-            (sym (updates_by_mates c b.sensor_id b.timestamp (take n array) few b.observations b.count sd p a (passed c.frame_id s.last s.sequences b ok).detections paired))
+            (sym (updates_by_mates c b.sensor_id b.timestamp (take n array) few b.observations b.count sd p a (passed c.frame_id s.last s.sequences b ok).detections))
           where
             go : (r : Reply (List Track3D)) → and_then (and_then r (λ us. given (told us))) (finished c s b) ≡ and_then r (λ us. finished c s b (told us))
             go (refused k) = refl

@@ -1,15 +1,13 @@
 -- What the prediction of the record answers: refused before it begins, by a track, or carried out. Assumes nothing.
 use mathlib.Core.Path.{◌≡◌, refl, sym, ap, ◌∙◌}
-use mathlib.Core.Bool.{Bool, true, false, cond}
+use mathlib.Core.Bool.{Bool, true, false}
 use mathlib.Core.List.{List, map}
-use Prim.Native.Nat.{ℕ, min, ◌≤◌, ◌<◌}
+use Prim.Native.Nat.{ℕ, min, ◌<◌}
 use native.Mathlib.Omega.{arith}
-use lib.Dec.{eqb}
 use lib.IntN.{ℤ}
 use lib.Ieee.{Float}
 use lib.ListN.{length, take, length-map}
-use Rattle.number.specs.Reply.{Reply, refused, given, and_then, code_of}
-use Rattle.number.proofs.Replies.{never_given, given_same}
+use Rattle.number.specs.Reply.{Reply, refused, given, and_then}
 use Rattle.lists.specs.Sift.{sift}
 use Rattle.lists.specs.Each.{each}
 use Rattle.lists.specs.Lay.{lay}
@@ -29,8 +27,9 @@ use Rattle.records.specs.declared.tracker.PkTracker.{PkTracker}
 use Rattle.records.specs.Tracks.{track_to}
 use Rattle.records.specs.Configs.{settings_of}
 use Rattle.records.specs.Trackers.{tracker_of, pk_state, pk_over}
-use Rattle.owner.specs.Owner.{Runs}
-use Rattle.owner.proofs.Carrying.{keeps_pk, moves_pk, Carrying, going, ended, nothing, all_refused, all_carried}
+use Rattle.moving.proofs.Passing.{Passed}
+use Rattle.owner.specs.Owner.{after_call}
+use Rattle.owner.proofs.Carrying.{keeps_pk, moves_pk, all_refused, all_carried}
 
 -- the record with other tracks in its places
 abbrev pub with_pk_tracks : PkTracker → List PkTrack → PkTracker
@@ -63,16 +62,6 @@ number_above refusal.AssignmentFailed = omega arith
 number_above refusal.TooMany = omega arith
 number_above refusal.InvalidPrior = omega arith
 
-above : (k n : ℕ) → 0 < k → ◌≡◌ {A = Reply State} (refused k) (refused n) → 0 < n
-above k n h e = let same : k ≡ n = cc in omega arith
-
-pub few : (code count n : ℕ) → n ≡ cond (eqb code 0) (min count 64) 0 → n ≤ 64
-few code count n e = go (eqb code 0) e
-  where
-    go : (b : Bool) → n ≡ cond b (min count 64) 0 → n ≤ 64
-    go true e = omega arith
-    go false e = omega arith
-
 module _ (t : PkTracker) (now : ℤ) (st : length t.tracks ≡ 64) (ss : length t.sequences ≡ 32) (sk : length t.candidates ≡ 64) where
   abbrev late : Bool
   late = is_before (pk_state t).last now
@@ -85,7 +74,7 @@ module _ (t : PkTracker) (now : ℤ) (st : length t.tracks ≡ 64) (ss : length 
   unfolding state_of tracker_of
   last_held = refl
 
-  too_early : late ≡ true → reply ≡ refused 3
+  pub too_early : late ≡ true → refused 3 ≡ after_call t reply
   unfolding predict_reply
   too_early e = rw e
 
@@ -135,32 +124,14 @@ module _ (t : PkTracker) (now : ℤ) (st : length t.tracks ≡ 64) (ss : length 
   abbrev density : Float
   density = (settings_of t.settings).accel_spectral_density
 
-  pub predict_ends : (s : PkTracker) (code start all i j c k : ℕ) → start ≡ cond late 3 0 → all ≡ cond (eqb start 0) (min t.track_count 64) 0 → all ≤ i → i ≤ all
-      → s ≡ with_pk_tracks t s.tracks → c ≡ min t.sequence_count 32 → k ≡ min t.candidate_count 64
-      → Carrying life density now t.tracks s.tracks i j all start code → Runs t (timed s j c k) code reply
-  predict_ends s code start all i j c k es ea h g e ec ek w = go late refl w
-    where
-      go : (b : Bool) → late ≡ b → Carrying life density now t.tracks s.tracks i j all start code → Runs t (timed s j c k) code reply
-      go true b (going q p) =
-          let e3 : start ≡ 3 = es ∙ rw b in
-          record { is = q ∙ e3 ∙ ap code_of (sym (too_early b)); whole = λ x r. never_given 3 x (sym (too_early b) ∙ r); heeded = λ n r. above 3 n (omega arith) (sym (too_early b) ∙ r) }
-      go true b (ended q h r) =
-          let e3 : start ≡ 3 = es ∙ rw b in
-          let none-there : all ≡ 0 = ea ∙ rw e3 in
-          let r0 : each (moves_pk life density now) (sift (keeps_pk life density now) (take 0 t.tracks)) ≡ refused code = rw none-there at r in
-          absurd (nothing life density now code t.tracks r0)
-      go false b (going q p) =
-          let e0 : start ≡ 0 = es ∙ rw b in
-          let n : all ≡ min t.track_count 64 = ea ∙ rw e0 in
-          let z = all_carried t now all st n s.tracks i j (omega arith) p in
-          let f : reply ≡ given (at_time now z.tracks (pk_state t)) = by_tracks b ∙ ap (λ (r : Reply (List Track3D)). and_then r (λ ts. given (at_time now ts (pk_state t)))) z.gives in
-          record {
-            is = q ∙ e0 ∙ ap code_of (sym f);
-            whole = λ x r. whole s j c k z.tracks e ec ek z.count z.slots ∙ ap (pk_over t) (given_same _ x (sym f ∙ r));
-            heeded = λ n r. never_given n (at_time now z.tracks (pk_state t)) (sym r ∙ f);
-          }
-      go false b (ended q h r) =
-          let e0 : start ≡ 0 = es ∙ rw b in
-          let n : all ≡ min t.track_count 64 = ea ∙ rw e0 in
-          let f : reply ≡ refused code = by_tracks b ∙ ap (λ (r : Reply (List Track3D)). and_then r (λ ts. given (at_time now ts (pk_state t)))) (all_refused t now all st n code r) in
-          record { is = ap code_of (sym f); whole = λ x r. never_given code x (sym f ∙ r); heeded = λ n r. above code n h (sym f ∙ r) }
+  module _ (soon : late ≡ false) (all : ℕ) (taken : all ≡ min t.track_count 64) where
+    pub track_refused : (k : ℕ) → each (moves_pk life density now (λ r. r)) (sift (keeps_pk life density now) (take all t.tracks)) ≡ refused k → refused k ≡ after_call t reply
+    track_refused k r =
+        sym (ap (after_call t) (by_tracks soon ∙ ap (λ (r : Reply (List Track3D)). and_then r (λ ts. given (at_time now ts (pk_state t)))) (all_refused t now all st taken k r)))
+
+    pub all_at_time : (s : PkTracker) (i j c k : ℕ) → i ≡ all → s ≡ with_pk_tracks t s.tracks → c ≡ min t.sequence_count 32 → k ≡ min t.candidate_count 64
+        → Passed (keeps_pk life density now) (moves_pk life density now (λ r. r)) t.tracks s.tracks i j → given (timed s j c k) ≡ after_call t reply
+    all_at_time s i j c k h e ec ek p =
+        let z = all_carried t now all st taken s.tracks i j h p in
+        ap given (whole s j c k z.tracks e ec ek z.count z.slots)
+        ∙ sym (ap (after_call t) (by_tracks soon ∙ ap (λ (r : Reply (List Track3D)). and_then r (λ ts. given (at_time now ts (pk_state t)))) z.gives))

@@ -1,15 +1,15 @@
 // A batch on the record that a C program holds.
-ghost use Rattle.std.specs.Prelude.{◌≡◌, cond, map, ltb, take};
+ghost use Rattle.std.specs.Prelude.{◌≡◌, cond, ltb, take};
+ghost use Rattle.number.specs.Reply.{reply_by};
+ghost use Rattle.types.specs.Refusals.{number_of};
 ghost use Rattle.calls.specs.Pairing.{pair_config};
 ghost use Rattle.matching.specs.Stage.{rows_taken, RowsMatch};
-ghost use Rattle.owner.specs.Processes.{refused_with, Processes};
+ghost use Rattle.owner.specs.Processes.{batch_reply_on, after_batch};
 
 use birth_candidates::Candidates;
-use birth_stage::one::Fated;
 use detections::Detection;
 use detections::pairs::PairConfig;
 use matching::Paired;
-use moving::Fate;
 use pairing::Row;
 use records::tracker::PkTracker;
 use settings::Cartesian3DTrackerConfig;
@@ -19,23 +19,11 @@ use types::batch::{BatchReport3D, ObservationBatch3D};
 use types::refusal::Refusal;
 use types::{MAX_OBSERVATIONS, MAX_TRACKS};
 
-// Whether a batch was carried out, the record after it, and the report; where it is refused the record counts for nothing.
+// The record after a batch, and the report.
 #[derive(Clone, Copy)]
 pub struct Ran {
     pub tracker: PkTracker,
-    pub outcome: Result<(), Refusal>,
     pub report: BatchReport3D,
-}
-
-// A batch that is refused.
-fn refuse(t: PkTracker, why: Refusal) -> Ran
-    ensures { result ≡ refused_with t why }
-{
-    Ran {
-        tracker: t,
-        outcome: Err(why),
-        report: stages::blank_report(),
-    }
 }
 
 // A place among the detections: that one, or the first where a track took none.
@@ -53,8 +41,8 @@ fn pair(
     m: usize,
     time: i64,
     config: Cartesian3DTrackerConfig,
-) -> Paired
-    ensures { RowsMatch (pair_config config) (take n rows) (take m seen) (rows_taken (pair_config config) (config.recent_track_window_ns) time (take n rows) (take m seen)) result }
+) -> Result<Paired, Refusal>
+    ensures { RowsMatch (pair_config config) (take n rows) (take m seen) (rows_taken (pair_config config) config.recent_track_window_ns time (take n rows) (take m seen)) result }
 {
     let window = config.recent_track_window_ns;
     let rule = PairConfig {
@@ -66,8 +54,8 @@ fn pair(
 
 // A batch of one sensor at one time, in the record itself: the tracks are moved and noted, paired, updated, and the births are added behind them.
 // One function over the record, since each function that takes it and gives it back copies it: three loops, each over what a function of one track or one detection does.
-pub fn process_batch(mut t: PkTracker, batch: ObservationBatch3D) -> Ran
-    ensures { Processes t batch result }
+pub fn process_batch(mut t: PkTracker, batch: ObservationBatch3D) -> Result<Ran, Refusal>
+    ensures { reply_by number_of result ≡ after_batch t (batch_reply_on t batch) }
 {
     let settings = t.settings;
     let config = records::config::settings_of(settings);
@@ -80,46 +68,25 @@ pub fn process_batch(mut t: PkTracker, batch: ObservationBatch3D) -> Ran
     let sensor = batch.sensor_id;
     let observations = batch.observations;
     let count = batch.count;
-    match batches::validate_batch(frame, last, sequences, t.sequence_count, batch) {
-        Err(why) => {
-            return refuse(t, why);
-        }
-        Ok(()) => {}
-    }
+    batches::validate_batch(frame, last, sequences, t.sequence_count, batch)?;
     let all = tables::taken(t.track_count, MAX_TRACKS);
     let blank = pairing::blank_row();
     let mut rows = [blank; MAX_TRACKS];
     let mut n: usize = 0;
     for i in 0..all {
-        let c = moving::carry(records::tracks::track_of(t.tracks[i]), time, life, density);
-        let fate = c.fate;
-        let moved = c.track;
-        match fate {
-            Fate::Dropped => {
-                continue;
-            }
-            Fate::Refused(why) => {
-                return refuse(t, why);
-            }
-            Fate::Kept => {
-                let x = types::track::with_mark(moved, false);
-                t.tracks[n] = records::tracks::track_to(x);
-                rows[n] = pairing::row_of(x);
-                n += 1;
-            }
-        }
+        let carried = moving::carry(records::tracks::track_of(t.tracks[i]), time, life, density)?;
+        let Some(moved) = carried else {
+            continue;
+        };
+        let x = types::track::with_mark(moved, false);
+        t.tracks[n] = records::tracks::track_to(x);
+        rows[n] = pairing::row_of(x);
+        n += 1;
     }
-    let paired = pair(rows, n, observations, count, time, config);
-    let outcome = paired.outcome;
+    let paired = pair(rows, n, observations, count, time, config)?;
     let mates = paired.mates;
     let pairs = paired.pairs;
     let unmatched = paired.unmatched;
-    match outcome {
-        Err(why) => {
-            return refuse(t, why);
-        }
-        Ok(()) => {}
-    }
     let update = updating::update_of(config, sensor, time);
     let nowhere = spawning::ruling::no_spot();
     let mut spots = [nowhere; MAX_TRACKS];
@@ -127,42 +94,20 @@ pub fn process_batch(mut t: PkTracker, batch: ObservationBatch3D) -> Ran
     for k in 0..n {
         let j = mates[k];
         let x = records::tracks::track_of(t.tracks[k]);
-        let step = updating::update_where(
-            x,
-            j < MAX_OBSERVATIONS,
-            observations[place_of(j)],
-            update,
-        );
-        let done = step.outcome;
-        let y = step.track;
-        match done {
-            Err(why) => {
-                return refuse(t, why);
-            }
-            Ok(()) => {
-                t.tracks[k] = records::tracks::track_to(y);
-                if !spawning::ruling::is_confirmed_track(y) {
-                    continue;
-                }
-                spots[near] = spawning::ruling::spot_of(y);
-                near += 1;
-            }
+        let y = updating::update_where(x, j < MAX_OBSERVATIONS, observations[place_of(j)], update)?;
+        t.tracks[k] = records::tracks::track_to(y);
+        if !spawning::ruling::is_confirmed_track(y) {
+            continue;
         }
+        spots[near] = spawning::ruling::spot_of(y);
+        near += 1;
     }
     let items = t.candidates;
     let held = Candidates {
         items,
         count: t.candidate_count,
     };
-    let aged = birth_candidates::age_by(held, time, config);
-    let stayed = aged.outcome;
-    let mut kept = aged.candidates;
-    match stayed {
-        Err(why) => {
-            return refuse(t, why);
-        }
-        Ok(()) => {}
-    }
+    let mut kept = held.age_by(time, config)?;
     let places = Places {
         items: spots,
         count: near,
@@ -177,42 +122,31 @@ pub fn process_batch(mut t: PkTracker, batch: ObservationBatch3D) -> Ran
             continue;
         }
         let x = birth_stage::one::consider(
-            kept,
+            &kept,
             observations[j],
-            places,
+            &places,
             n,
             id,
             time,
             sensor,
             config,
-        );
-        let fate = x.fate;
-        let begun = x.track;
-        let left = x.candidates;
-        match fate {
-            Fated::Alone => {
-                kept = left;
-                associations[j] = birth_stage::alone(j);
-                continue;
-            }
-            Fated::Begun => {
-                kept = left;
-                t.tracks[n] = records::tracks::track_to(begun);
-                associations[j] = birth_stage::begun(j, id);
-                n += 1;
-                id += 1;
-            }
-            Fated::Refused(why) => {
-                return refuse(t, why);
-            }
-        }
+        )?;
+        kept = x.candidates;
+        let Some(begun) = x.begun else {
+            associations[j] = birth_stage::alone(j);
+            continue;
+        };
+        t.tracks[n] = records::tracks::track_to(begun);
+        associations[j] = birth_stage::begun(j, id);
+        n += 1;
+        id += 1;
     }
-    let laid = birth_candidates::laid(held, kept);
+    let laid = held.laid(&kept);
     let table = Sequences {
         entries: sequences,
         count: t.sequence_count,
     };
-    let noted = tables::sequences::note(table, sensor, batch.sequence);
+    let noted = table.note(sensor, batch.sequence);
     let candidates = laid.items;
     let entries = noted.entries;
     t.track_count = n;
@@ -231,9 +165,5 @@ pub fn process_batch(mut t: PkTracker, batch: ObservationBatch3D) -> Ran
         unmatched_track_ids: unmatched,
         unmatched_track_count: paired.unmatched_count,
     };
-    Ran {
-        tracker: t,
-        outcome: Ok(()),
-        report,
-    }
+    Ok(Ran { tracker: t, report })
 }

@@ -1,6 +1,6 @@
 -- Rows as the code holds them: what the pairing reads of a track; the column of each row as a number, with 64 for none.
 use Rattle.std.specs.Prelude.{ℕ, ◌<◌, ◌≡◌, Bool, List, map, ℤ, Float, length, get_or, replicate, None, Option, Some}
-use Rattle.number.specs.Reply.{Reply, refused, given, and_then}
+use Rattle.number.specs.Reply.{Reply, given, and_then, reply_or}
 use Rattle.matrix.specs.Matrix.{nought}
 use Rattle.kuhn_munkres.specs.Assignment.{column_of}
 use Rattle.lists.specs.Each.{each}
@@ -55,5 +55,4 @@ pub record Mates (t : List (Option ℕ)) (mates : List ℕ) : Type 0 where
 -- ---- the enum in 01's terms
 
 abbrev pub reply_of_recency : Option Bool → Reply Bool
-reply_of_recency (Some recent) = given recent
-reply_of_recency None = refused 8
+reply_of_recency o = reply_or 8 o

@@ -5,16 +5,15 @@ use lib.Ieee.{Float}
 use Rattle.number.specs.Reply.{Reply, code_of, left_in}
 use Rattle.matrix.specs.Matrix.{Vector}
 use Rattle.filter.specs.declared.KalmanFilter.{KalmanFilter}
-use Rattle.filter.specs.declared.Step.{Step}
-use Rattle.filter.specs.Filter.{filter_with, Answer}
-use Rattle.probe.specs.Lent.{StepCall, DistanceCall, Laid}
+use Rattle.filter.specs.Filter.{filter_with}
+use Rattle.probe.specs.Lent.{StepCall, DistanceCall}
 
-pub step_call : {reply : Reply KalmanFilter} {s : Step} {r : ℕ} {x p x' p' : Vector} → Answer (filter_with x p) s reply → Laid s r x' p' → StepCall reply r x p x' p'
-step_call a l =
+pub step_call : {reply reply' : Reply KalmanFilter} {r : ℕ} {x p x' p' : Vector} → reply ≡ reply' → StepCall reply r x p x' p' → StepCall reply' r x p x' p'
+step_call {x = x} {p = p} e l =
     record {
-      code = l.code ∙ ap code_of a.is;
-      state = l.state ∙ ap (λ (f : KalmanFilter). f.state) a.left;
-      covariance = l.covariance ∙ ap (λ (f : KalmanFilter). f.covariance) a.left;
+      code = l.code ∙ ap code_of e;
+      state = l.state ∙ ap (λ (q : Reply KalmanFilter). (left_in q (filter_with x p)).state) e;
+      covariance = l.covariance ∙ ap (λ (q : Reply KalmanFilter). (left_in q (filter_with x p)).covariance) e;
     }
 
 pub distance_call : {reply reply' : Reply Float} {r : ℕ} {before after : Float} → reply ≡ reply' → DistanceCall reply r before after → DistanceCall reply' r before after

@@ -4,8 +4,7 @@ use Rattle.number.specs.Reply.{Reply, code_of, left_in}
 use Rattle.matrix.specs.Matrix.{Vector}
 use Rattle.filter.specs.declared.KalmanFilter.{KalmanFilter}
 use Rattle.filter.specs.declared.Expected.{Expected}
-use Rattle.filter.specs.declared.Step.{Step}
-use Rattle.filter.specs.Filter.{filter_with, reply_of_step}
+use Rattle.filter.specs.Filter.{filter_with}
 
 -- 01, What each call declines: "A refusal answers its number and changes nothing lent or held." The arrays held x and p before, and hold x' and p' after.
 pub record StepCall (reply : Reply KalmanFilter) (r : ℕ) (x p x' p' : Vector) : Type 0 where
@@ -25,9 +24,3 @@ pub record ExpectedCall (m : Expected) (h s : Vector) : Type 0 where
 
 abbrev pub expected_with : Vector → Vector → Expected
 expected_with h s = record { position = h; covariance = s }
-
--- the filter that a step leaves, in two arrays
-pub record Laid (s : Step) (r : ℕ) (x p : Vector) : Type 0 where
-  pub code : r ≡ code_of (reply_of_step s)
-  pub state : x ≡ s.filter.state
-  pub covariance : p ≡ s.filter.covariance

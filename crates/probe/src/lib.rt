@@ -4,39 +4,46 @@
 ghost use Rattle.std.specs.Prelude.{◌≡◌};
 ghost use Rattle.math.specs.Refusing.{number_of};
 ghost use Rattle.math.specs.Linalg.{reply_of_distance};
-ghost use Rattle.filter.specs.Filter.{filter_with, expected_of, predicted, updated_by_position, updated_by_velocity, squared_mahalanobis, distance_from};
-ghost use Rattle.probe.specs.Lent.{StepCall, DistanceCall, ExpectedCall, expected_with, Laid};
+ghost use Rattle.filter.specs.Filter.{filter_with, expected_of, predicted, updated_by_position, updated_by_velocity, squared_mahalanobis, distance_from, reply_of_filter};
+ghost use Rattle.probe.specs.Lent.{StepCall, DistanceCall, ExpectedCall, expected_with};
+
+use filter::KalmanFilter;
+use math::linalg::Refusal;
 
 // 01's number of a refusal.
-fn number_of(why: math::linalg::Refusal) -> u32
+fn number_of(why: Refusal) -> u32
     ensures { result ≡ number_of why }
 {
     match why {
-        math::linalg::Refusal::NonFiniteValue => 5,
-        math::linalg::Refusal::NotSymmetric => 6,
-        math::linalg::Refusal::NotPositiveDefinite => 7,
-        math::linalg::Refusal::NonFiniteResult => 9,
+        Refusal::NonFiniteValue => 5,
+        Refusal::NotSymmetric => 6,
+        Refusal::NotPositiveDefinite => 7,
+        Refusal::NonFiniteResult => 9,
     }
 }
 
-// The filter after a step into the arrays, and the step's code.
-fn lay(step: filter::Step, state: &mut [f64; 6], covariance: &mut [f64; 36]) -> u32
-    ensures { Laid step result state.new covariance.new }
+// The filter that a call gives into the arrays, and the answer's code.
+fn lay(
+    answer: Result<KalmanFilter, Refusal>,
+    state: &mut [f64; 6],
+    covariance: &mut [f64; 36],
+) -> u32
+    ensures { StepCall (reply_of_filter answer) result state.old covariance.old state.new covariance.new }
 {
-    let outcome = step.outcome;
-    let after = step.filter;
-    let x = after.state;
-    let p = after.covariance;
-    *state = x;
-    *covariance = p;
-    match outcome {
-        Ok(()) => 0,
+    match answer {
+        Ok(f) => {
+            let x = f.state;
+            let p = f.covariance;
+            *state = x;
+            *covariance = p;
+            0
+        }
         Err(why) => number_of(why),
     }
 }
 
 // A distance behind the pointer, and the answer's code.
-fn lay_distance(distance: Result<f64, math::linalg::Refusal>, out: &mut f64) -> u32
+fn lay_distance(distance: Result<f64, Refusal>, out: &mut f64) -> u32
     ensures { DistanceCall (reply_of_distance distance) result out.old out.new }
 {
     match distance {
@@ -60,7 +67,7 @@ pub extern "C" fn probe_predict(
 {
     let x = *state;
     let p = *covariance;
-    let f = filter::KalmanFilter {
+    let f = KalmanFilter {
         state: x,
         covariance: p,
     };
@@ -79,7 +86,7 @@ pub extern "C" fn probe_update_position(
 {
     let x = *state;
     let p = *covariance;
-    let f = filter::KalmanFilter {
+    let f = KalmanFilter {
         state: x,
         covariance: p,
     };
@@ -98,7 +105,7 @@ pub extern "C" fn probe_update_velocity(
 {
     let x = *state;
     let p = *covariance;
-    let f = filter::KalmanFilter {
+    let f = KalmanFilter {
         state: x,
         covariance: p,
     };
@@ -118,7 +125,7 @@ pub extern "C" fn probe_squared_mahalanobis(
 {
     let x = *state;
     let p = *covariance;
-    let f = filter::KalmanFilter {
+    let f = KalmanFilter {
         state: x,
         covariance: p,
     };
@@ -137,7 +144,7 @@ pub extern "C" fn probe_expected_position(
 {
     let x = *state;
     let p = *covariance;
-    let f = filter::KalmanFilter {
+    let f = KalmanFilter {
         state: x,
         covariance: p,
     };

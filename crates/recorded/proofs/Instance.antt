@@ -20,7 +20,8 @@ use Rattle.lifecycle.specs.declared.TrackLifecycleState.TheVariants.{Tentative}
 use Rattle.detections.specs.declared.Detection.{Detection}
 use Rattle.detections.specs.declared.pairs.PairConfig.{PairConfig}
 use Rattle.detections.specs.declared.pairs.Target.{Target}
-use Rattle.detections.specs.Pairs.{Ruling, forbidden, allowed}
+use Rattle.detections.specs.declared.pairs.Ruling.{Ruling}
+use Rattle.detections.specs.declared.pairs.Ruling.TheVariants.{Allowed, Forbidden}
 use Rattle.detections.specs.Far.{MayPair, Far}
 use Rattle.detections.proofs.Verdicts.{forbidden_pair, refused_pair}
 use Rattle.types.specs.declared.track.Track3D.{Track3D}
@@ -93,8 +94,8 @@ carried u b e = record { tracker = record { is = go (process_reply u.config (sta
 module _ (c : PairConfig) (d : Detection) where
   forbids_pair : (t : Track3D) (r : Reply Ruling) → verdict c t d ≡ r → forbids r ≡ true → ¬ MayPair c (target_for t) d
   forbids_pair t (refused n) p e = refused_pair c (target_for t) d n p
-  forbids_pair t (given (forbidden rule)) p e = forbidden_pair c (target_for t) d rule p
-  forbids_pair t (given (allowed cost)) p e = absurd (let z : ◌≡◌ {A = ℕ} 0 1 = cc in omega arith)
+  forbids_pair t (given (Forbidden rule)) p e = forbidden_pair c (target_for t) d rule p
+  forbids_pair t (given (Allowed cost)) p e = absurd (let z : ◌≡◌ {A = ℕ} 0 1 = cc in omega arith)
 
   both : (a b : Bool) → (a && b) ≡ true → (a ≡ true) × (b ≡ true)
   both true b e = (refl, e)

@@ -20,7 +20,7 @@ use Rattle.symmetry.specs.Symmetry as symmetry
 use Rattle.cholesky.specs.Cholesky.{column_by, pivot_root, columns_from, cholesky}
 use Rattle.solving.specs.Solving.{forward, backward, solved_columns, gain_by}
 use Rattle.solving.specs.Solving as solving
-use Rattle.definite.specs.Definite.{factorable}
+use Rattle.cholesky.specs.Definite.{factorable}
 use Rattle.math.specs.Linalg.{entries_checked, validated, distance_reply, distance_by, squared_distance}
 use Rattle.models.specs.Models.{transition, noise, selection, isotropic}
 use Rattle.filter.specs.Filter.{stored, created, predicted, updated_by_position, updated_by_velocity, updated_by_checked_velocity, squared_mahalanobis, expected_of, distance_from, updated_from}

@@ -9,7 +9,8 @@ use Rattle.settings.specs.declared.Cartesian3DTrackerConfig.{Cartesian3DTrackerC
 use Rattle.settings.specs.Settings.{default_settings}
 use Rattle.detections.specs.declared.Detection.{Detection}
 use Rattle.detections.specs.declared.pairs.PairConfig.{PairConfig}
-use Rattle.detections.specs.Pairs.{Ruling, forbidden, allowed}
+use Rattle.detections.specs.declared.pairs.Ruling.{Ruling}
+use Rattle.detections.specs.declared.pairs.Ruling.TheVariants.{Allowed, Forbidden}
 use Rattle.types.specs.declared.refusal.Refusal.TheVariants.{TimestampWentBackwards, InvalidPrior}
 use Rattle.types.specs.declared.track.Track3D.{Track3D}
 use Rattle.types.specs.declared.batch.ObservationBatch3D.{ObservationBatch3D}
@@ -45,8 +46,8 @@ verdicts_on t (call ∷ calls) = verdict_on (state_reply t.config (state_of t) c
 
 abbrev pub forbids : Reply Ruling → Bool
 forbids (refused n) = true
-forbids (given (forbidden rule)) = true
-forbids (given (allowed cost)) = false
+forbids (given (Forbidden rule)) = true
+forbids (given (Allowed cost)) = false
 
 unfoldable pub all_forbid : PairConfig → List Track3D → Detection → Bool
 all_forbid c [] d = true

@@ -2,6 +2,7 @@
 use super::lives::count_of;
 use lifecycle::LifecycleConfig;
 use settings::Cartesian3DTrackerConfig;
+use settings::bad_field::BadField;
 use settings::frame::FrameName;
 use std::io;
 use wire::floats::{bits_of, number_of};
@@ -67,10 +68,10 @@ fn settings_of(numbers: [u64; 21], set: u64) -> Cartesian3DTrackerConfig {
 }
 
 // The number of the first bad field, 0 where there is none.
-fn field_of(v: Result<(), u32>) -> u64 {
+fn field_of(v: Result<(), BadField>) -> u64 {
     match v {
         Ok(()) => 0,
-        Err(n) => n as u64,
+        Err(field) => u64::from(u32::from(field)),
     }
 }
 

@@ -3,7 +3,7 @@ ghost use Rattle.std.specs.Prelude.{◌+◌, ◌≤◌};
 
 use super::pairs::Seen;
 use detections::PlanarVelocity;
-use filter::{KalmanFilter, Step};
+use filter::KalmanFilter;
 use math::linalg::Refusal;
 use std::io;
 use wire::Line;
@@ -70,19 +70,23 @@ fn write_filter(rt: &impl Print, f: KalmanFilter) -> io::Result<()> {
     Ok(())
 }
 
-// Writes what a step answers and leaves.
-fn with_step(rt: &impl Print, r: Filters, s: Step) -> io::Result<Filters> {
-    let outcome = s.outcome;
-    let filter = s.filter;
-    match outcome {
-        Ok(()) => wire::write(rt, b'F', [0, 0, 0, 0])?,
-        Err(why) => wire::write(rt, b'F', [code_of(why), 0, 0, 0])?,
-    }
+// Writes what a call answers, and the filter after it: the one before, where it is refused.
+fn with_answer(
+    rt: &impl Print,
+    r: Filters,
+    answer: Result<KalmanFilter, Refusal>,
+) -> io::Result<Filters> {
+    let code = match answer {
+        Ok(_) => 0,
+        Err(why) => code_of(why),
+    };
+    let filter = answer.unwrap_or(r.filter);
+    wire::write(rt, b'F', [code, 0, 0, 0])?;
     write_filter(rt, filter)?;
     Ok(Filters { filter, ..r })
 }
 
-fn write_distance(rt: &impl Print, d: Result<f64, math::linalg::Refusal>) -> io::Result<()> {
+fn write_distance(rt: &impl Print, d: Result<f64, Refusal>) -> io::Result<()> {
     match d {
         Ok(x) => wire::write(rt, b'E', [0, bits_of(x), 0, 0]),
         Err(why) => wire::write(rt, b'E', [code_of(why), 0, 0, 0]),
@@ -99,6 +103,18 @@ fn load(mut r: Filters, line: Line) -> Filters {
     r
 }
 
+// A filter of the numbers. One that is refused is loaded all the same, so that the other calls are tried on such a filter too.
+fn create(rt: &impl Print, r: Filters) -> io::Result<Filters> {
+    let state = part(&r.numbers, 0);
+    let covariance = part(&r.numbers, 6);
+    let filter = KalmanFilter { state, covariance };
+    with_answer(
+        rt,
+        Filters { filter, ..r },
+        filter::create(state, covariance),
+    )
+}
+
 // One call: see main.rt.
 pub fn run(rt: &impl Print, r: Filters, line: Line) -> io::Result<Filters> {
     let [first, second, third, _] = line.numbers;
@@ -109,14 +125,10 @@ pub fn run(rt: &impl Print, r: Filters, line: Line) -> io::Result<Filters> {
     let noise = part(&r.numbers, 45);
     match line.letter {
         b'V' => Ok(load(r, line)),
-        b'K' => with_step(
-            rt,
-            r,
-            filter::create(part(&r.numbers, 0), part(&r.numbers, 6)),
-        ),
-        b'P' => with_step(rt, r, filter::predict(r.filter, a, b)),
-        b'U' => with_step(rt, r, filter::update_position(r.filter, position, noise)),
-        b'W' => with_step(rt, r, filter::update_velocity(r.filter, [a, b], c)),
+        b'K' => create(rt, r),
+        b'P' => with_answer(rt, r, filter::predict(r.filter, a, b)),
+        b'U' => with_answer(rt, r, filter::update_position(r.filter, position, noise)),
+        b'W' => with_answer(rt, r, filter::update_velocity(r.filter, [a, b], c)),
         b'D' => {
             write_distance(rt, filter::squared_mahalanobis(r.filter, position, noise))?;
             Ok(r)

@@ -1,7 +1,8 @@
 // Detections beside a track, by calls.
-use detections::pairs::{ClassPrior, PairConfig, Rule, Target, Verdict};
+use detections::pairs::{ClassPrior, PairConfig, Rule, Ruling, Target};
 use detections::{Detection, PlanarVelocity};
 use filter::KalmanFilter;
+use math::linalg::Refusal;
 use std::io;
 use wire::Line;
 use wire::floats::{bits_of, number_of};
@@ -54,11 +55,11 @@ fn code_of(rule: Rule) -> u64 {
     }
 }
 
-fn write_verdict(rt: &impl Print, v: Verdict) -> io::Result<()> {
-    match v {
-        Verdict::Allowed(cost) => wire::write(rt, b'p', [0, 0, bits_of(cost), 0]),
-        Verdict::Forbidden(rule) => wire::write(rt, b'p', [0, code_of(rule), 0, 0]),
-        Verdict::Refused(why) => wire::write(rt, b'p', [super::filters::code_of(why), 0, 0, 0]),
+fn write_verdict(rt: &impl Print, verdict: Result<Ruling, Refusal>) -> io::Result<()> {
+    match verdict {
+        Ok(Ruling::Allowed(cost)) => wire::write(rt, b'p', [0, 0, bits_of(cost), 0]),
+        Ok(Ruling::Forbidden(rule)) => wire::write(rt, b'p', [0, code_of(rule), 0, 0]),
+        Err(why) => wire::write(rt, b'p', [super::filters::code_of(why), 0, 0, 0]),
     }
 }
 

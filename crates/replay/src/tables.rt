@@ -1,6 +1,7 @@
 // Cost tables, loaded by some lines, and their assignments.
 use assignment::{Assignment, AssignmentError};
 use std::io;
+use types::refusal::Refusal;
 use wire::Line;
 use wire::floats::number_of;
 use wire::words::Words;
@@ -30,11 +31,7 @@ impl Costs {
 }
 
 fn code_of(why: AssignmentError) -> u64 {
-    match why {
-        AssignmentError::TooMany => 11,
-        AssignmentError::NonFinite => 9,
-        AssignmentError::Failed => 10,
-    }
+    u64::from(u32::from(Refusal::from(why)))
 }
 
 // The first pairs, as row times 2^32 and column.

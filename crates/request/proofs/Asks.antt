@@ -4,13 +4,11 @@ use mathlib.Core.Path.{◌≡◌, refl, ap, sym, ◌∙◌}
 use mathlib.Core.Bool.{Bool, true, false, cond, ◌&&◌}
 use mathlib.Core.List.{List, [], ◌∷◌, ◌++◌}
 use Prim.Native.Nat.{ℕ, suc, ◌+◌, ◌-◌, ◌≤◌}
-use native.Mathlib.Numerals.{add-one}
 use native.Mathlib.Omega.{arith}
-use borrow.Author.Tests.{eq-eqb, ne_eqb}
 use lib.Dec.{eqb}
 use lib.IntN.{ℤ, pos, negsuc}
-use lib.ListN.{length, take, drop, get_or, set, length-drop, drop_of_length-le}
-use lib.Seq.{sets, drop-cons}
+use lib.ListN.{length, take, drop, set}
+use lib.Seq.{sets}
 use lib.Ieee.{Float}
 use Rattle.kuhn_munkres.specs.Assignment.{in_one}
 use Rattle.forms.proofs.Shapes.{never, Tail, on, inner}
@@ -24,33 +22,6 @@ use Rattle.std.proofs.Common.{Some, None}
 use Rattle.request.proofs.Lists.{rest_of, Leaves, Got, got, bracketed_leaves}
 use Rattle.request.proofs.Heads.{argument_leaves}
 use Rattle.request.proofs.Tables.{row_leaves}
-
--- ---- the end
-closing_short : (l : List ℕ) → (length l ≡ 2 → ⊥) → false ≡ closing l
-unfolding closing
-closing_short [] f = refl
-closing_short (a ∷ []) f = refl
-closing_short (a ∷ b ∷ []) f = absurd (f refl)
-closing_short (a ∷ b ∷ c ∷ l) f = refl
-
-module _ (s : List ℕ) (at : ℕ) where
-  pub closing_other : (length s - at ≡ 2 → ⊥) → false ≡ closing (drop at s)
-  closing_other f = closing_short (drop at s) (λ g. f (sym (length-drop at s) ∙ g))
-
-  module _ (h : length s - at ≡ 2) where
-    pub end_is : drop at s ≡ get_or s at 0 ∷ get_or s (at + 1) 0 ∷ []
-    end_is =
-        let a : drop at s ≡ get_or s at 0 ∷ drop (at + 1) s = rw (add-one) (drop-cons s at 0 (omega arith)) in
-        let b : drop (at + 1) s ≡ get_or s (at + 1) 0 ∷ drop (at + 1 + 1) s = drop-cons s (at + 1) 0 (omega arith) ∙ rw (add-one (at + 1)) in
-        a ∙ ap (λ (l : List ℕ). get_or s at 0 ∷ l) (b ∙ ap (λ (l : List ℕ). get_or s (at + 1) 0 ∷ l) (drop_of_length-le s {i = at + 1 + 1} (omega arith)))
-
-    pub closing_byte : (get_or s at 0 ≡ 41 → ⊥) → false ≡ closing (drop at s)
-    unfolding closing
-    closing_byte f = rw (end_is, ne_eqb _ _ f)
-
-    pub closing_last : get_or s at 0 ≡ 41 → eqb (get_or s (at + 1) 0) 10 ≡ closing (drop at s)
-    unfolding closing
-    closing_last e = rw (end_is, eq-eqb _ _ e)
 
 -- ---- the head leaves a tail
 cost_tail : (r c : ℕ) (l x : List ℕ) (h : Sizes) (o : Option (ℤ × List ℕ)) → ((m : List ℕ) (z : ℤ) → o ≡ Some (z, m) → Tail l m) → costed r c o ≡ Some (h, x) → Tail l x

@@ -55,9 +55,6 @@ pub found_none : {X : Type 0} (s : List ℕ) (o : Option (X × List ℕ)) → No
 found_none s None h = refl
 found_none s (Some (x, l)) h = absurd (let z : ◌≡◌ {A = ℕ} 0 1 = cc in omega arith)
 
-pub found_is : {X : Type 0} (p : Reader X) (s : List ℕ) (at : ℕ) (x : X) (e : ℕ) → Got p s at x e → Some (record { value = x; end = e }) ≡ found_of s (p (drop at s))
-found_is p s at x e g = rw (g.left, place s e g.within)
-
 module _ {X : Type 0} where
   behind_same : (f g : Reader (List X)) (o : Option (X × List ℕ)) → ((x : X) (c : ℕ) (m : List ℕ) → o ≡ Some (x, c ∷ m) → f m ≡ g m) → behind f o ≡ behind g o
   unfolding behind

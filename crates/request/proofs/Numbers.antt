@@ -12,7 +12,7 @@ use lib.IntN.{ℤ, pos, negsuc, nat_abs}
 use lib.ListN.{length, take, drop, get_or, length-drop, drop_of_length-le}
 use lib.Seq.{drop-cons}
 use lib.Ieee.{Float, binary64, of_int, of_bits, of_fields, inf}
-use Rattle.std.proofs.Common.{Option as Answer, Some, None, Result, Ok, Err, SFits, w32}
+use Rattle.std.proofs.Common.{Option, Some, None, Result, Ok, Err, SFits, w32}
 use Rattle.std.specs.Int.{FitsUnsignedBits}
 use Rattle.std.specs.Result.{OkIff, result_ok}
 use Rattle.std.proofs.lemmas.Int.{ints}
@@ -55,16 +55,6 @@ unfolding begins
 begins_is [] s = refl
 begins_is (b ∷ t) [] = refl
 begins_is (b ∷ t) (c ∷ l) = rw (same b c, begins_is t l)
-
-pub begins_long : (t s : List ℕ) → begins t s ≡ true → length t ≤ length s
-unfolding begins
-begins_long [] s h = omega arith
-begins_long (b ∷ t) [] h = absurd (let z : ◌≡◌ {A = ℕ} 0 1 = cc in omega arith)
-begins_long (b ∷ t) (c ∷ l) h = go (eqb c b) (begins_long t l) h
-  where
-    go : (x : Bool) → (begins t l ≡ true → length t ≤ length l) → x && begins t l ≡ true → length (b ∷ t) ≤ length (c ∷ l)
-    go true f e = let r = f e in omega arith
-    go false f e = absurd (let z : ◌≡◌ {A = ℕ} 0 1 = cc in omega arith)
 
 -- ---- the word at `at`, which ends at e
 module _ (s : List ℕ) (at e : ℕ) (b : at ≤ length s) (q : e ≡ word_end s at) where
@@ -155,7 +145,7 @@ unfolding of_bits of_fields
 infinite = refl
 
 -- ---- a number that is not below zero
-unfoldable pub natural : ℤ → Answer ℕ
+unfoldable pub natural : ℤ → Option ℕ
 natural (pos n) = Some n
 natural (negsuc n) = None
 

@@ -8,7 +8,7 @@ use native.Mathlib.Omega.{arith}
 use lib.Dec.{eqb}
 use lib.ListN.{length, drop}
 use lib.Ieee.{Float}
-use Rattle.std.proofs.Common.{Option as Answer, Some, None}
+use Rattle.std.proofs.Common.{Option, Some, None}
 use Rattle.forms.specs.Shape.{past_word}
 use Rattle.forms.proofs.Shapes.{never, Tail, one, more, past_tail}
 use Rattle.forms.specs.Decimal.{decimal_of}
@@ -66,7 +66,7 @@ row_read read at o a e q w h k =
       holds = λ b f g. w ∙ ap costs_of (sym q ∙ g);
     }
 
-pub row_same : (read read' : Option (Stored × ℕ)) (at at' : ℕ) (r : Answer (Found ℕ)) (o : List Float) → read ≡ read' → at' ≤ at → RowRead read at r o → RowRead read' at' r o
+pub row_same : (read read' : Option (Stored × ℕ)) (at at' : ℕ) (r : Option (Found ℕ)) (o : List Float) → read ≡ read' → at' ≤ at → RowRead read at r o → RowRead read' at' r o
 row_same read read' at at' r o q k w =
     record {
       is = w.is ∙ ap row_answer q;
@@ -123,5 +123,5 @@ pub fill_is : (s : List ℕ) (at w : ℕ) (a : Filled) (m e : ℕ) (o' : List Fl
     → fill_row w a g.row ≡ record { rows = a.rows + 1; same = a.same && eqb m w; next = a.next + m; costs = o' }
 fill_is s at w a m e o' g = ap (fill_from w a) g.made
 
-pub table_same : (read read' : Option (Filled × ℕ)) (r : Answer (Found Rows)) (o : List Float) → read ≡ read' → TableRead read r o → TableRead read' r o
+pub table_same : (read read' : Option (Filled × ℕ)) (r : Option (Found Rows)) (o : List Float) → read ≡ read' → TableRead read r o → TableRead read' r o
 table_same read read' r o q w = record { is = w.is ∙ ap rows_answer q; long = w.long; holds = λ a e g. w.holds a e (q ∙ g) }

@@ -1,5 +1,5 @@
 -- What the reader of a request answers: what is asked, or 01's 13, and the costs in one array.
-use Rattle.std.specs.Prelude.{◌≡◌, Bool, List, [], ◌∷◌, replicate, Float, Option as Answer, Some, None, IfSome, Option}
+use Rattle.std.specs.Prelude.{◌≡◌, Bool, List, [], ◌∷◌, replicate, Float, Option, Some, None, IfSome}
 use Rattle.std.specs.Float.{binary64}
 use Rattle.std.specs.Float.Ieee.{of_bits}
 use Rattle.number.specs.Reply.{Reply, refused, given}
@@ -17,7 +17,7 @@ abbrev pub asked_reply : Option Request → Reply Stated
 asked_reply None = refused 13
 asked_reply (Some q) = given (record { sizes = q.sizes; shaped_table = shaped q })
 
-abbrev pub reply_of_reading : Answer Reading → Reply Stated
+abbrev pub reply_of_reading : Option Reading → Reply Stated
 reply_of_reading (Some r) = given (record { sizes = record { rows = r.rows; columns = r.columns; cost = r.cost }; shaped_table = r.shaped })
 reply_of_reading None = refused 13
 
@@ -35,6 +35,6 @@ abbrev pub costs_of : Option Request → List Float
 costs_of None = no_costs
 costs_of (Some q) = over (in_one q.table) no_costs
 
-pub record ReadingAnswer (read : Option Request) (r : Answer Reading) : Type 0 where
+pub record ReadingAnswer (read : Option Request) (r : Option Reading) : Type 0 where
   pub is : reply_of_reading r ≡ asked_reply read
   pub costs_are : IfSome r (λ q. q.costs ≡ costs_of read)

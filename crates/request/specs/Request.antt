@@ -1,6 +1,6 @@
 -- What a line asks. 01, Line of the program `assign`: "Input `(assign 2 2 10 ((1 2) (- 4)))`: rows and columns (0 or more), row cost, table; `-` forbids and
 -- stands only in the table; decimal −1,000,000 to 1,000,000, no leading zero, no `-0`."
-use Rattle.std.specs.Prelude.{◌≡◌, Bool, true, false, cond, ◌&&◌, List, [], ◌∷◌, ℕ, ◌+◌, ◌-◌, ◌≤◌, eqb, ℤ, pos, negsuc, length, take, drop, set, Float, Option as Answer, Some, None, Option}
+use Rattle.std.specs.Prelude.{◌≡◌, Bool, true, false, cond, ◌&&◌, List, [], ◌∷◌, ℕ, ◌+◌, ◌-◌, ◌≤◌, eqb, ℤ, pos, negsuc, length, take, drop, set, Float, Option, Some, None}
 use Rattle.std.specs.Float.{binary64, inf}
 use Rattle.std.specs.Float.Ieee.{of_int}
 use Rattle.forms.specs.Bytes.{bytes_of}
@@ -130,18 +130,18 @@ abbrev pub shaped : Request → Bool
 shaped q = eqb (length q.table) q.sizes.rows && even q.sizes.columns q.table
 
 -- ---- as answers, with the place in s of what is left
-abbrev pub found_of : {X : Type 0} → List ℕ → Option (X × List ℕ) → Answer (Found X)
+abbrev pub found_of : {X : Type 0} → List ℕ → Option (X × List ℕ) → Option (Found X)
 found_of s None = None
 found_of s (Some (x, l)) = Some (record { value = x; end = length s - length l })
 
 abbrev pub head_in : Sizes → Head
 head_in h = record { rows = h.rows; columns = h.columns; cost = h.cost }
 
-abbrev pub head_answer : List ℕ → Option (Sizes × List ℕ) → Answer (Found Head)
+abbrev pub head_answer : List ℕ → Option (Sizes × List ℕ) → Option (Found Head)
 head_answer s None = None
 head_answer s (Some (h, l)) = Some (record { value = head_in h; end = length s - length l })
 
-abbrev pub cost_answer : Option Float → Answer Float
+abbrev pub cost_answer : Option Float → Option Float
 cost_answer None = None
 cost_answer (Some x) = Some x
 
@@ -154,12 +154,12 @@ pub record Stored : Type 0 where
 abbrev pub store_one : ℕ → Stored → Float → Stored
 store_one k a x = record { count = a.count + 1; costs = set a.costs (k + a.count) x }
 
-abbrev pub row_answer : Option (Stored × ℕ) → Answer (Found ℕ)
+abbrev pub row_answer : Option (Stored × ℕ) → Option (Found ℕ)
 row_answer None = None
 row_answer (Some (a, e)) = Some (record { value = a.count; end = e })
 
 -- what a row's reader answers and leaves; an entry has at least one byte
-pub record RowRead (read : Option (Stored × ℕ)) (at : ℕ) (r : Answer (Found ℕ)) (o : List Float) : Type 0 where
+pub record RowRead (read : Option (Stored × ℕ)) (at : ℕ) (r : Option (Found ℕ)) (o : List Float) : Type 0 where
   pub is : r ≡ row_answer read
   pub long : length o ≡ 4096
   pub short : (f : Found ℕ) → r ≡ Some f → at + f.value ≤ f.end
@@ -181,11 +181,11 @@ fill_from w a p = record { rows = a.rows + 1; same = a.same && eqb p.count w; ne
 abbrev pub fill_row : ℕ → Filled → List Float → Filled
 fill_row w a row = fill_from w a (after (store_one a.next) (record { count = 0; costs = a.costs }) row)
 
-abbrev pub rows_answer : Option (Filled × ℕ) → Answer (Found Rows)
+abbrev pub rows_answer : Option (Filled × ℕ) → Option (Found Rows)
 rows_answer None = None
 rows_answer (Some (a, e)) = Some (record { value = record { count = a.rows; even = a.same }; end = e })
 
-pub record TableRead (read : Option (Filled × ℕ)) (r : Answer (Found Rows)) (o : List Float) : Type 0 where
+pub record TableRead (read : Option (Filled × ℕ)) (r : Option (Found Rows)) (o : List Float) : Type 0 where
   pub is : r ≡ rows_answer read
   pub long : length o ≡ 4096
   pub holds : (a : Filled) (e : ℕ) → read ≡ Some (a, e) → o ≡ a.costs

@@ -1,4 +1,5 @@
 // What a gain K leaves of a state: I − K H, for an H that selects N items from FROM on. Of a finite row of K it is read off, bit for bit what the products give; else it is worked out.
+// The generic functions ask N + FROM ≤ 6, which no type says of two const parameters; the two of position and velocity name an instance, and ask nothing.
 #![tactic(auto)]
 
 ghost use Rattle.std.specs.Prelude.{◌≡◌, ◌<◌, ◌≤◌, ◌+◌, ◌-◌, cond, ltb};
@@ -79,7 +80,7 @@ fn rest<const N: usize, const FROM: usize>(k: [[f64; N]; 6]) -> [[f64; 6]; 6]
     )
 }
 
-// What a gain for the position leaves of a state.
+// What a gain for the position leaves of a state. This and the next are instances by name: they ask nothing, where the function above asks that what H selects lies in a state.
 pub fn position_rest(k: [[f64; 3]; 6]) -> [[f64; 6]; 6]
     ensures { result ≡ minus 6 6 (identity 6) (product 6 3 6 k (selection 3 6 0)) }
 {

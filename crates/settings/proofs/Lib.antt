@@ -1,3 +1,3 @@
-pub mod Walks
+pub mod Firsts
 pub mod Frames
 pub mod Defaults

@@ -5,9 +5,10 @@ use Rattle.std.specs.Float.{binary64}
 use Rattle.std.specs.Float.Ieee.{round}
 use Rattle.lifecycle.specs.declared.LifecycleConfig.{LifecycleConfig}
 use Rattle.settings.specs.declared.Cartesian3DTrackerConfig.{Cartesian3DTrackerConfig}
+use Rattle.settings.specs.declared.bad_field.BadField.{BadField}
 use Rattle.settings.specs.Optional.{set_and}
 use Rattle.settings.specs.Frame.{world_frame, too_long}
-use Rattle.settings.specs.Fields.{Field, field, first_bad, SettingsReply, accepted, refused, negative_number, not_positive_number, outside_unit, not_positive_time, below_two}
+use Rattle.settings.specs.Fields.{Field, field, first_bad, SettingsReply, accepted, refused, number_of_field, negative_number, not_positive_number, outside_unit, not_positive_time, below_two}
 
 -- ---- defaults: the Rust's; 01: "the gate's is 16.266"
 
@@ -45,26 +46,24 @@ default_settings =
 
 -- ---- the check
 
--- 01, Settings: "Rust's order is 1 tentative timeout, 2 confirmed-to-lost, 3 lost-to-delete, 4 contributing sensors, 5 score threshold,
--- 6 acceleration density, 7 velocity variance, 8 gate, 9 class penalty, 10 birth distance, 11 persistence, 12 radius, 13 candidate timeout,
--- 14 velocity deviation, 15 recent window; added after them, 16 frame name too long, 17 more than 16 contributing sensors."
+-- each with its number, in 01's order
 unfoldable pub fields_of : Cartesian3DTrackerConfig → List Field
 fields_of c =
     field 1 (not_positive_time c.lifecycle.tentative_timeout_ns)
     ∷ field 2 (not_positive_time c.lifecycle.confirmed_to_lost_ns)
     ∷ field 3 (lt_z c.lifecycle.lost_to_delete_ns c.lifecycle.confirmed_to_lost_ns)
     ∷ field 4 (eqb c.max_contributing_sensors 0)
-    ∷ field 5 (set_and outside_unit (c.new_track_score_threshold))
+    ∷ field 5 (set_and outside_unit c.new_track_score_threshold)
     ∷ field 6 (negative_number c.accel_spectral_density)
     ∷ field 7 (not_positive_number c.initial_velocity_variance)
     ∷ field 8 (not_positive_number c.gate_squared_mahalanobis)
     ∷ field 9 (negative_number c.class_prior_penalty)
-    ∷ field 10 (set_and not_positive_number (c.min_birth_distance_m))
-    ∷ field 11 (set_and below_two (c.birth_persistence))
+    ∷ field 10 (set_and not_positive_number c.min_birth_distance_m)
+    ∷ field 11 (set_and below_two c.birth_persistence)
     ∷ field 12 (not_positive_number c.birth_candidate_radius_m)
     ∷ field 13 (not_positive_time c.birth_candidate_timeout_ns)
-    ∷ field 14 (set_and not_positive_number (c.velocity_measurement_std))
-    ∷ field 15 (set_and not_positive_time (c.recent_track_window_ns))
+    ∷ field 14 (set_and not_positive_number c.velocity_measurement_std)
+    ∷ field 15 (set_and not_positive_time c.recent_track_window_ns)
     ∷ field 16 (too_long c.frame_id)
     ∷ field 17 (ltb 16 c.max_contributing_sensors)
     ∷ []
@@ -73,6 +72,6 @@ unfoldable pub settings_reply : Cartesian3DTrackerConfig → SettingsReply
 settings_reply c = first_bad (fields_of c)
 
 -- the answer in 01's numbers
-abbrev pub reply_of : Result (Unit {0}) ℕ → SettingsReply
+abbrev pub reply_of : Result (Unit {0}) BadField → SettingsReply
 reply_of (Ok _) = accepted
-reply_of (Err k) = refused 1 k
+reply_of (Err f) = refused 1 (number_of_field f)

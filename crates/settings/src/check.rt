@@ -1,66 +1,96 @@
-// The check of the settings, field after field in the specification's order. Each part goes on from the answer of the one before it.
-ghost use Rattle.std.specs.Prelude.{◌≡◌, take, drop};
-ghost use Rattle.settings.specs.Fields.{accepted, field, next, walk};
+// The check of the settings, field after field in the specification's order, in four parts: the first bad field is the answer.
+ghost use Rattle.std.specs.Prelude.{◌≡◌, [], ◌∷◌, take, drop};
+ghost use Rattle.settings.specs.Fields.{field, first_bad, number_of_field};
 ghost use Rattle.settings.specs.Settings.{reply_of, fields_of};
 
+use super::bad_field::BadField;
 use super::fields::{negative, not_positive, not_positive_time};
 use super::{Cartesian3DTrackerConfig, fields, frame};
 
-// The answer after one field more: an earlier bad field stays.
-fn checked(earlier: Result<(), u32>, number: u32, bad: bool) -> Result<(), u32>
-    ensures { reply_of result ≡ next (reply_of earlier) (field number bad) }
+fn refuse_if(bad: bool, name: BadField) -> Result<(), BadField>
+    ensures { reply_of result ≡ first_bad (field (number_of_field name) bad ∷ []) }
 {
-    match earlier {
-        Ok(()) => { if bad { Err(number) } else { Ok(()) } }
-        Err(n) => Err(n),
-    }
+    if bad { Err(name) } else { Ok(()) }
 }
 
 // Fields 1 to 3.
-pub fn lifecycle(c: Cartesian3DTrackerConfig) -> Result<(), u32>
-    ensures { reply_of result ≡ walk accepted (take 3 (fields_of c)) }
+pub fn lifecycle(c: Cartesian3DTrackerConfig) -> Result<(), BadField>
+    ensures { reply_of result ≡ first_bad (take 3 (fields_of c)) }
 {
     let life = c.lifecycle;
-    let v = Ok(());
-    let v = checked(v, 1, not_positive_time(life.tentative_timeout_ns));
-    let v = checked(v, 2, not_positive_time(life.confirmed_to_lost_ns));
-    checked(v, 3, life.lost_to_delete_ns < life.confirmed_to_lost_ns)
+    refuse_if(
+        not_positive_time(life.tentative_timeout_ns),
+        BadField::TentativeTimeout,
+    )?;
+    refuse_if(
+        not_positive_time(life.confirmed_to_lost_ns),
+        BadField::ConfirmedToLost,
+    )?;
+    refuse_if(
+        life.lost_to_delete_ns < life.confirmed_to_lost_ns,
+        BadField::LostToDelete,
+    )
 }
 
 // Fields 4 to 9.
-pub fn numbers(earlier: Result<(), u32>, c: Cartesian3DTrackerConfig) -> Result<(), u32>
-    ensures { reply_of result ≡ walk (reply_of earlier) (take 6 (drop 3 (fields_of c))) }
+pub fn numbers(c: Cartesian3DTrackerConfig) -> Result<(), BadField>
+    ensures { reply_of result ≡ first_bad (take 6 (drop 3 (fields_of c))) }
 {
     let threshold = c.new_track_score_threshold;
-    let v = checked(earlier, 4, c.max_contributing_sensors == 0);
-    let v = checked(v, 5, fields::threshold_is_bad(threshold));
-    let v = checked(v, 6, negative(c.accel_spectral_density));
-    let v = checked(v, 7, not_positive(c.initial_velocity_variance));
-    let v = checked(v, 8, not_positive(c.gate_squared_mahalanobis));
-    checked(v, 9, negative(c.class_prior_penalty))
+    refuse_if(
+        c.max_contributing_sensors == 0,
+        BadField::ContributingSensors,
+    )?;
+    refuse_if(
+        fields::threshold_is_bad(threshold),
+        BadField::ScoreThreshold,
+    )?;
+    refuse_if(
+        negative(c.accel_spectral_density),
+        BadField::AccelerationDensity,
+    )?;
+    refuse_if(
+        not_positive(c.initial_velocity_variance),
+        BadField::VelocityVariance,
+    )?;
+    refuse_if(not_positive(c.gate_squared_mahalanobis), BadField::Gate)?;
+    refuse_if(negative(c.class_prior_penalty), BadField::ClassPenalty)
 }
 
 // Fields 10 to 13.
-pub fn births(earlier: Result<(), u32>, c: Cartesian3DTrackerConfig) -> Result<(), u32>
-    ensures { reply_of result ≡ walk (reply_of earlier) (take 4 (drop 9 (fields_of c))) }
+pub fn births(c: Cartesian3DTrackerConfig) -> Result<(), BadField>
+    ensures { reply_of result ≡ first_bad (take 4 (drop 9 (fields_of c))) }
 {
     let distance = c.min_birth_distance_m;
     let persistence = c.birth_persistence;
-    let v = checked(earlier, 10, fields::length_is_bad(distance));
-    let v = checked(v, 11, fields::persistence_is_bad(persistence));
-    let v = checked(v, 12, not_positive(c.birth_candidate_radius_m));
-    checked(v, 13, not_positive_time(c.birth_candidate_timeout_ns))
+    let timeout = c.birth_candidate_timeout_ns;
+    refuse_if(fields::length_is_bad(distance), BadField::BirthDistance)?;
+    refuse_if(
+        fields::persistence_is_bad(persistence),
+        BadField::BirthPersistence,
+    )?;
+    refuse_if(
+        not_positive(c.birth_candidate_radius_m),
+        BadField::CandidateRadius,
+    )?;
+    refuse_if(not_positive_time(timeout), BadField::CandidateTimeout)
 }
 
 // The fields from 14 on.
-pub fn rest(earlier: Result<(), u32>, c: Cartesian3DTrackerConfig) -> Result<(), u32>
-    ensures { reply_of result ≡ walk (reply_of earlier) (drop 13 (fields_of c)) }
+pub fn rest(c: Cartesian3DTrackerConfig) -> Result<(), BadField>
+    ensures { reply_of result ≡ first_bad (drop 13 (fields_of c)) }
 {
     let deviation = c.velocity_measurement_std;
     let window = c.recent_track_window_ns;
     let name = c.frame_id;
-    let v = checked(earlier, 14, fields::length_is_bad(deviation));
-    let v = checked(v, 15, fields::window_is_bad(window));
-    let v = checked(v, 16, frame::too_long(name));
-    checked(v, 17, 16 < c.max_contributing_sensors)
+    refuse_if(
+        fields::length_is_bad(deviation),
+        BadField::VelocityDeviation,
+    )?;
+    refuse_if(fields::window_is_bad(window), BadField::RecentWindow)?;
+    refuse_if(frame::too_long(name), BadField::FrameNameTooLong)?;
+    refuse_if(
+        16 < c.max_contributing_sensors,
+        BadField::TooManyContributingSensors,
+    )
 }

@@ -34,37 +34,29 @@ pub fn not_positive_time(t: i64) -> bool
 }
 
 pub fn threshold_is_bad(threshold: Option<f64>) -> bool
-    ensures { result ≡ set_and outside_unit (threshold) }
+    ensures { result ≡ set_and outside_unit threshold }
 {
-    match threshold {
-        None => false,
-        Some(x) => outside_unit(x),
-    }
+    threshold.is_some_and(outside_unit)
 }
 
 pub fn length_is_bad(length: Option<f64>) -> bool
-    ensures { result ≡ set_and not_positive_number (length) }
+    ensures { result ≡ set_and not_positive_number length }
 {
-    match length {
-        None => false,
-        Some(x) => not_positive(x),
-    }
+    length.is_some_and(not_positive)
 }
 
 pub fn persistence_is_bad(persistence: Option<u32>) -> bool
-    ensures { result ≡ set_and below_two (persistence) }
+    ensures { result ≡ set_and below_two persistence }
 {
-    match persistence {
-        None => false,
-        Some(n) => n < 2,
-    }
+    persistence.is_some_and(
+        |n| -> bool
+            ensures { result ≡ below_two n }
+        { n < 2 },
+    )
 }
 
 pub fn window_is_bad(window: Option<i64>) -> bool
-    ensures { result ≡ set_and not_positive_time (window) }
+    ensures { result ≡ set_and not_positive_time window }
 {
-    match window {
-        None => false,
-        Some(t) => not_positive_time(t),
-    }
+    window.is_some_and(not_positive_time)
 }

@@ -4,10 +4,12 @@
 ghost use Rattle.std.specs.Prelude.{◌≡◌};
 ghost use Rattle.settings.specs.Settings.{default_settings, reply_of, settings_reply};
 
+pub mod bad_field;
 mod check;
 mod fields;
 pub mod frame;
 
+use bad_field::BadField;
 use frame::FrameName;
 use lifecycle::LifecycleConfig;
 
@@ -103,12 +105,12 @@ impl Cartesian3DTrackerConfig {
     }
 
     // Whether the settings may be used, else their first bad field.
-    pub fn validate(self) -> Result<(), u32>
+    pub fn validate(self) -> Result<(), BadField>
         ensures { reply_of result ≡ settings_reply self }
     {
-        let v = check::lifecycle(self);
-        let v = check::numbers(v, self);
-        let v = check::births(v, self);
-        check::rest(v, self)
+        check::lifecycle(self)?;
+        check::numbers(self)?;
+        check::births(self)?;
+        check::rest(self)
     }
 }

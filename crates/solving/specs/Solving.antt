@@ -13,23 +13,30 @@ less_sum (suc n) f x = sub binary64 x (sum_of (suc n) f)
 
 -- ---- solving with the factor's columns l
 
--- the first i items of y with L y = b
+-- item i of y with L y = b, by the i items before it
+abbrev pub forward_item : Matrix → Vector → ℕ → (ℕ → Float) → Float
+forward_item l b i before = div binary64 (less_each i (λ k. mul binary64 (entry l k i) (before k)) (item b i)) (entry l i i)
+
+-- the first i items of it
 abbrev pub forward_to : ℕ → Matrix → Vector → Vector
 forward_to zero l b = []
 forward_to (suc i) l b =
     let y = forward_to i l b in
-    y ++ (div binary64 (less_each i (λ k. mul binary64 (entry l k i) (item y k)) (item b i)) (entry l i i) ∷ [])
+    y ++ (forward_item l b i (λ k. item y k) ∷ [])
 
 unfoldable pub forward : ℕ → Matrix → Vector → Vector
 forward n l b = forward_to n l b
 
--- the last k of the n items of x with Lᵀ x = y
+-- item i of x with Lᵀ x = y, by the k items behind it
+abbrev pub backward_item : Matrix → Vector → ℕ → ℕ → (ℕ → Float) → Float
+backward_item l y i k behind = div binary64 (less_sum k (λ t. mul binary64 (entry l i (i + 1 + t)) (behind t)) (item y i)) (entry l i i)
+
+-- the last k of the n items of it
 abbrev pub backward_from : ℕ → ℕ → Matrix → Vector → Vector
 backward_from zero n l y = []
 backward_from (suc k) n l y =
     let x = backward_from k n l y in
-    let i = n - suc k in
-    div binary64 (less_sum k (λ t. mul binary64 (entry l i (i + 1 + t)) (item x t)) (item y i)) (entry l i i) ∷ x
+    backward_item l y (n - suc k) k (λ t. item x t) ∷ x
 
 unfoldable pub backward : ℕ → Matrix → Vector → Vector
 backward n l y = backward_from n n l y

@@ -1,86 +1,108 @@
 // What is solved with a Cholesky factor, and the gain. Each answer is equal bit for bit to the definition of any size in specs/.
-// The triangles of two rows and of three are structs of their own entries, so each has its own steps. One function over rows of any number would read zeros above the diagonal and loop over so few terms.
 #![tactic(auto)]
 
-ghost use Rattle.std.specs.Prelude.{◌≡◌};
-ghost use Rattle.cholesky.specs.Factor.{columns_of2, columns_of3};
-ghost use Rattle.solving.specs.Solving.{forward, backward, solved, gain_by};
+ghost use Rattle.std.specs.Prelude.{◌≡◌, ◌<◌, ◌+◌, ◌-◌};
+ghost use Rattle.std.specs.Float.{binary64};
+ghost use Rattle.std.specs.Float.Ieee.{mul};
+ghost use Rattle.matrix.specs.Matrix.{item, row, entry, sum_to};
+ghost use Rattle.solving.specs.Solving.{forward_item, forward, backward_item, backward, solved, gain_by};
 
-// y with L y = b.
-fn forward2(l: cholesky::Lower2, b: [f64; 2]) -> [f64; 2]
-    ensures { result ≡ forward 2 (columns_of2 l) b }
-{
-    let y0 = b[0] / l.l00;
-    let y1 = (b[1] - l.l10 * y0) / l.l11;
-    [y0, y1]
-}
+use std::array::from_fn;
 
-// x with Lᵀ x = y.
-fn backward2(l: cholesky::Lower2, y: [f64; 2]) -> [f64; 2]
-    ensures { result ≡ backward 2 (columns_of2 l) y }
+// Item i of y with L y = b, by the items before it.
+fn forward_item<const N: usize>(
+    columns: &[[f64; N]; N],
+    b: &[f64; N],
+    y: &[f64; N],
+    i: usize,
+) -> f64
+    requires { i < N }
+    ensures { result ≡ forward_item columns.now b.now i (λ k. item y.now k) }
 {
-    let x1 = y[1] / l.l11;
-    let x0 = (y[0] - l.l10 * x1) / l.l00;
-    [x0, x1]
-}
-
-// x with L Lᵀ x = b.
-fn solve2(l: cholesky::Lower2, b: [f64; 2]) -> [f64; 2]
-    ensures { result ≡ solved 2 (columns_of2 l) b }
-{
-    backward2(l, forward2(l, b))
+    let mut x = b[i];
+    for k in 0..i {
+        x -= columns[k][i] * y[k];
+    }
+    x / columns[i][i]
 }
 
 // y with L y = b.
-fn forward3(l: cholesky::Lower3, b: [f64; 3]) -> [f64; 3]
-    ensures { result ≡ forward 3 (columns_of3 l) b }
+fn forward<const N: usize>(columns: &[[f64; N]; N], b: &[f64; N]) -> [f64; N]
+    ensures { result ≡ forward N columns.now b.now }
 {
-    let y0 = b[0] / l.l00;
-    let y1 = (b[1] - l.l10 * y0) / l.l11;
-    let y2 = (b[2] - l.l20 * y0 - l.l21 * y1) / l.l22;
-    [y0, y1, y2]
+    let mut y = [0.0; N];
+    for i in 0..N {
+        y[i] = forward_item(columns, b, &y, i);
+    }
+    y
+}
+
+// The terms of the items of x behind item i, from the first to the last.
+fn behind<const N: usize>(columns: &[[f64; N]; N], x: &[f64; N], i: usize) -> f64
+    requires { i + 1 < N }
+    ensures { result ≡ sum_to (N - (i + 2)) (λ t. mul binary64 (entry columns.now i (i + 1 + t)) (item x.now (i + 1 + t))) }
+{
+    let mut sum = columns[i][i + 1] * x[i + 1];
+    for k in i + 2..N {
+        sum += columns[i][k] * x[k];
+    }
+    sum
+}
+
+// Item i of x with Lᵀ x = y, by the items behind it.
+fn backward_item<const N: usize>(
+    columns: &[[f64; N]; N],
+    y: &[f64; N],
+    x: &[f64; N],
+    i: usize,
+) -> f64
+    requires { i < N }
+    ensures { result ≡ backward_item columns.now y.now i (N - (i + 1)) (λ t. item x.now (i + 1 + t)) }
+{
+    if i + 1 < N {
+        (y[i] - behind(columns, x, i)) / columns[i][i]
+    } else {
+        y[i] / columns[i][i]
+    }
 }
 
 // x with Lᵀ x = y.
-fn backward3(l: cholesky::Lower3, y: [f64; 3]) -> [f64; 3]
-    ensures { result ≡ backward 3 (columns_of3 l) y }
+fn backward<const N: usize>(columns: &[[f64; N]; N], y: &[f64; N]) -> [f64; N]
+    ensures { result ≡ backward N columns.now y.now }
 {
-    let x2 = y[2] / l.l22;
-    let x1 = (y[1] - l.l21 * x2) / l.l11;
-    let x0 = (y[0] - (l.l10 * x1 + l.l20 * x2)) / l.l00;
-    [x0, x1, x2]
+    let mut x = *y;
+    for i in (0..N).rev() {
+        x[i] = backward_item(columns, y, &x, i);
+    }
+    x
 }
 
 // x with L Lᵀ x = b.
-pub fn solve3(l: cholesky::Lower3, b: [f64; 3]) -> [f64; 3]
-    ensures { result ≡ solved 3 (columns_of3 l) b }
+fn solution<const N: usize>(columns: &[[f64; N]; N], b: &[f64; N]) -> [f64; N]
+    ensures { result ≡ solved N columns.now b.now }
 {
-    backward3(l, forward3(l, b))
+    backward(columns, &forward(columns, b))
+}
+
+// The same, by the factor.
+pub fn solve<const N: usize>(l: cholesky::Lower<N>, b: [f64; N]) -> [f64; N]
+    ensures { result ≡ solved N l.entry.columns b.entry }
+{
+    solution(&l.columns, &b)
 }
 
 // The gain for P Hᵀ: each row is solved by itself.
-pub fn gain2(l: cholesky::Lower2, pht: [[f64; 2]; 6]) -> [[f64; 2]; 6]
-    ensures { result ≡ gain_by 2 6 (columns_of2 l) pht }
+pub fn gain<const N: usize, const M: usize>(
+    l: cholesky::Lower<N>,
+    pht: [[f64; N]; M],
+) -> [[f64; N]; M]
+    ensures { result ≡ gain_by N M l.entry.columns pht.entry }
 {
-    [
-        solve2(l, pht[0]),
-        solve2(l, pht[1]),
-        solve2(l, pht[2]),
-        solve2(l, pht[3]),
-        solve2(l, pht[4]),
-        solve2(l, pht[5]),
-    ]
-}
-
-pub fn gain3(l: cholesky::Lower3, pht: [[f64; 3]; 6]) -> [[f64; 3]; 6]
-    ensures { result ≡ gain_by 3 6 (columns_of3 l) pht }
-{
-    [
-        solve3(l, pht[0]),
-        solve3(l, pht[1]),
-        solve3(l, pht[2]),
-        solve3(l, pht[3]),
-        solve3(l, pht[4]),
-        solve3(l, pht[5]),
-    ]
+    let columns = l.columns;
+    from_fn(
+        |i| -> [f64; N]
+            requires { i < M }
+            ensures { result ≡ solved N columns (row pht i) }
+        { solution(&columns, &pht[i]) },
+    )
 }

@@ -21,6 +21,7 @@ pub struct Spot {
     pub position: [f64; 3],
 }
 
+// The places of the confirmed tracks, in fixed memory as the tracks are: an array with a count.
 #[derive(Clone, Copy)]
 pub struct Places {
     pub items: [Spot; MAX_TRACKS],
@@ -40,12 +41,7 @@ pub enum Ruling {
 fn is_confirmed(state: TrackLifecycleState) -> bool
     ensures { result ≡ is_confirmed state }
 {
-    match state {
-        TrackLifecycleState::Tentative => false,
-        TrackLifecycleState::Confirmed => true,
-        TrackLifecycleState::Lost => false,
-        TrackLifecycleState::Deleted => false,
-    }
+    matches!(state, TrackLifecycleState::Confirmed)
 }
 
 pub fn spot_of(x: Track3D) -> Spot
@@ -60,9 +56,7 @@ pub fn spot_of(x: Track3D) -> Spot
 pub fn is_confirmed_track(x: Track3D) -> bool
     ensures { result ≡ is_confirmed x.lifecycle.state }
 {
-    let l = x.lifecycle;
-    let state = l.state;
-    is_confirmed(state)
+    is_confirmed(x.lifecycle.state)
 }
 
 // What stands where no place is.
@@ -90,24 +84,35 @@ pub fn confirmed_places(t: Cartesian3DTracker) -> Places
     Places { items, count }
 }
 
-// Whether a place is strictly nearer than the radius.
-fn is_near(p: Places, position: [f64; 3], radius: f64) -> bool
-    ensures { result ≡ any (λ q. nearer q position radius) (places_of p) }
-{
-    let n = tables::taken(p.count, MAX_TRACKS);
-    for i in 0..n {
-        let x = p.items[i];
-        let place = x.position;
-        if detections::births::is_nearer(place, position, radius) {
-            return true;
+impl Places {
+    // Whether one is strictly nearer than the radius.
+    fn is_near(&self, position: [f64; 3], radius: f64) -> bool
+        ensures { result ≡ any (λ q. nearer q position radius) (places_of self.now) }
+    {
+        let n = tables::taken(self.count, MAX_TRACKS);
+        for i in 0..n {
+            let x = self.items[i];
+            if detections::births::is_nearer(x.position, position, radius) {
+                return true;
+            }
+        }
+        false
+    }
+
+    // Whether one is nearer than a birth distance that is set.
+    fn is_suppressing(&self, position: [f64; 3], least: Option<f64>) -> bool
+        ensures { result ≡ set_and (λ x. any (λ q. nearer q position x) (places_of self.now)) least }
+    {
+        match least {
+            None => false,
+            Some(radius) => self.is_near(position, radius),
         }
     }
-    false
 }
 
 // Whether a score is below a threshold that is set.
 fn is_low(score: Option<f64>, threshold: Option<f64>) -> bool
-    ensures { result ≡ set_and (score_below score) (threshold) }
+    ensures { result ≡ set_and (score_below score) threshold }
 {
     match threshold {
         None => false,
@@ -115,19 +120,9 @@ fn is_low(score: Option<f64>, threshold: Option<f64>) -> bool
     }
 }
 
-// Whether a place is nearer than a birth distance that is set.
-fn is_suppressed(p: Places, position: [f64; 3], least: Option<f64>) -> bool
-    ensures { result ≡ set_and (λ x. any (λ q. nearer q position x) (places_of p)) (least) }
-{
-    match least {
-        None => false,
-        Some(radius) => is_near(p, position, radius),
-    }
-}
-
 // A detection near a confirmed track is counted where the settings ask for persistence.
 fn suppress(persistence: Option<u32>) -> Ruling
-    ensures { result ≡ suppressed_by (persistence) }
+    ensures { result ≡ suppressed_by persistence }
 {
     match persistence {
         None => Ruling::Passed,
@@ -135,19 +130,15 @@ fn suppress(persistence: Option<u32>) -> Ruling
     }
 }
 
-pub fn rule(d: Detection, places: Places, config: Cartesian3DTrackerConfig) -> Ruling
-    ensures { result ≡ ruling_of (low_score config d) (near_confirmed config (places_of places) d) (config.birth_persistence) }
+// What becomes of a detection by its score and the confirmed tracks.
+pub fn rule(d: Detection, places: &Places, config: Cartesian3DTrackerConfig) -> Ruling
+    ensures { result ≡ ruling_of (low_score config d) (near_confirmed config (places_of places.now) d) config.birth_persistence }
 {
-    let score = d.score;
-    let threshold = config.new_track_score_threshold;
-    let least = config.min_birth_distance_m;
-    let persistence = config.birth_persistence;
-    let position = d.position;
-    if is_low(score, threshold) {
+    if is_low(d.score, config.new_track_score_threshold) {
         return Ruling::Passed;
     }
-    if is_suppressed(places, position, least) {
-        return suppress(persistence);
+    if places.is_suppressing(d.position, config.min_birth_distance_m) {
+        return suppress(config.birth_persistence);
     }
     Ruling::Begins
 }

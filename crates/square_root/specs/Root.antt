@@ -1,11 +1,11 @@
 -- The square root as IEEE 754 has it: the exact root, rounded once to the nearest binary64.
 -- 01, Number and root: "A root is the binary64 nearest the exact square root, stated over squared whole numbers. Root of ±0 is itself, of +infinity +infinity." 01, Root: "9 for NaN or below zero."
-use Rattle.std.specs.Prelude.{◌≡◌, ℕ, zero, suc, ◌+◌, ◌-◌, ◌*◌, ◌/◌, ◌^◌, ◌<◌, ◌≤◌, true, false, cond, T, ◌==◌, nat_lt, Float, None, Option, Some}
+use Rattle.std.specs.Prelude.{◌≡◌, ℕ, zero, suc, ◌+◌, ◌-◌, ◌*◌, ◌/◌, ◌^◌, ◌<◌, ◌≤◌, true, false, cond, T, ◌==◌, nat_lt, Float, Option}
 use Rattle.std.specs.Float.{nan, inf, fin}
 use Rattle.std.specs.Float.Ieee.{up, down, size, odd}
 use Rattle.std.specs.Float.Ieee.Exact.{HasValue}
 use Rattle.std.specs.Float.Ieee.Positive.{positive}
-use Rattle.number.specs.Reply.{Reply, refused, given}
+use Rattle.number.specs.Reply.{Reply, refused, given, reply_or}
 
 -- ---- what a nearest root is
 
@@ -53,8 +53,7 @@ root_reply (fin false (suc m) e) = given (root_of (suc m * up e * 2 ^ 2148 / dow
 -- ---- the contract
 
 abbrev pub reply_of_root : Option Float → Reply Float
-reply_of_root (Some v) = given v
-reply_of_root None = refused 9
+reply_of_root o = reply_or 9 o
 
 pub record RootAnswer (x : Float) (r : Option Float) : Type 0 where
   pub is : reply_of_root r ≡ root_reply x

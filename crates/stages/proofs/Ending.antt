@@ -1,6 +1,5 @@
 -- The last stages of a batch: the births, the sensor's sequence and the report, put together. Assumes nothing.
-use Rattle.std.specs.Prelude.{Err, Ok}
-use mathlib.Core.Path.{◌≡◌, refl, sym, ap, subst, ◌∙◌}
+use mathlib.Core.Path.{◌≡◌, refl, sym, ap, ◌∙◌}
 use mathlib.Core.Bool.{Bool, true, false, cond}
 use mathlib.Core.List.{List, [], ◌∷◌}
 use Prim.Native.Nat.{ℕ, suc, ◌≤◌}
@@ -25,20 +24,16 @@ use Rattle.calls.specs.Predict.{at_time}
 use Rattle.calls.specs.Update.{Matched}
 use Rattle.calls.specs.Births.{Births, remaining, with_candidates, confirmed_places, births_of}
 use Rattle.calls.specs.Process.{Done, associations_from, done_with, finished}
-use Rattle.calls.specs.Run.{state_given}
-use Rattle.calls.specs.Answers.{Answers, report_after}
-use Rattle.calls.proofs.Answering.{refuses, carries_out, refused_same}
 use Rattle.calls.proofs.Accepted.{noted_room}
-use Rattle.number.proofs.Replies.{never_given, bound}
+use Rattle.number.proofs.Replies.{bound, given_same}
 use Rattle.calls.proofs.Spawning.{births_length}
 use Rattle.moving.specs.Steps.{with_time}
 use Rattle.association.specs.declared.Pair.{Pair}
 use Rattle.birth_stage.specs.declared.Walked.{Walked}
-use Rattle.birth_stage.specs.Walk.{births_after, blanks, told_in, Walks}
+use Rattle.birth_stage.specs.Walk.{births_after, blanks, walked_on, after_walk}
 use Rattle.birth_stage.proofs.Walking.{told_length, columns_length}
 use Rattle.birth_stage.proofs.Growing.{Grows, after_grows}
-use Rattle.stages.specs.declared.Reported.{Reported}
-use Rattle.stages.specs.Stages.{refused_with, matched_in, Finishes}
+use Rattle.stages.specs.Stages.{matched_in, finished_on}
 use Rattle.moving.proofs.Tracks.{refused_before}
 
 -- ---- the sensor's sequence
@@ -93,87 +88,82 @@ module _ (u : Cartesian3DTracker) (b : ObservationBatch3D) (pairs : List Pair) (
       go (refused n) = refl
       go (given l) = refl
 
-  module _ (w : Walked) (walks : Walks timed w born) where
-    pub finish_refused : (why : Refusal) → w.outcome ≡ Err why → (r : Reported) → r ≡ refused_with u why → Finishes u b m r
-    finish_refused why e r q =
-        let a : Answers timed w.tracker (Err why) (and_then born (λ x. given x.state)) = subst (λ o. Answers timed w.tracker o (and_then born (λ x. given x.state))) e walks.answers in
-        let n : born ≡ refused (number_of why) = refused_before born (λ (x : Births). x.state) (number_of why) (refused_same timed w.tracker why _ a).0 in
-        let f : refused (number_of why) ≡ finished u.config (state_of u) b m = sym (finished_as ∙ ap (λ (x : Reply Births). and_then x (λ y. given (done_with b m y))) n) in
-        subst (Finishes u b m) (sym q) (record { tracker = refuses u why _ (ap state_given f); reported = ap report_after f })
+  pub finish_refused : (why : Refusal) → refused (number_of why) ≡ after_walk timed born → refused (number_of why) ≡ finished_on u (finished u.config (state_of u) b m)
+  finish_refused why e =
+      let n : born ≡ refused (number_of why) = refused_before born (walked_on timed) (number_of why) (sym e) in
+      ap (finished_on u) (sym (finished_as ∙ ap (λ (x : Reply Births). and_then x (λ y. given (done_with b m y))) n))
 
-    module _ (done : w.outcome ≡ Ok tt) where
-      -- the births that were carried out
-      record Bore : Type 0 where
-        all : Births
-        bears : born ≡ given all
-        whole : w.tracker ≡ over_state timed all.state
+  module _ (w : Walked) (walks : given w ≡ after_walk timed born) where
+    -- the births that were carried out
+    record Bore : Type 0 where
+      all : Births
+      bears : born ≡ given all
+      same : w ≡ walked_on timed all
 
-      bore : Bore
-      bore = go born (subst (λ o. Answers timed w.tracker o (and_then born (λ x. given x.state))) done walks.answers) refl
-        where
-          go : (r : Reply Births) → Answers timed w.tracker (Ok tt) (and_then r (λ x. given x.state)) → born ≡ r → Bore
-          go (refused n) a e = never_given n tt (sym a.is)
-          go (given y) a e = record { all = y; bears = e; whole = a.whole }
+    bore : Bore
+    bore = let p = bound born (λ x. given (walked_on timed x)) w (sym walks) in record { all = p.0; bears = p.1; same = sym (given_same _ _ p.2) }
 
-      over_timed : (x : State) → over_state timed x ≡ over_state u x
-      unfolding over_state
-      over_timed x = refl
+    over_timed : (x : State) → over_state timed x ≡ over_state u x
+    unfolding over_state
+    over_timed x = refl
 
-      -- all that births leave
-      ended : Grows (state_of timed) bore.all.state
-      ended = after_grows u.config b.sensor_id b.timestamp m.columns (state_of timed) bore.all bore.bears
+    -- all that births leave
+    ended : Grows (state_of timed) bore.all.state
+    ended = after_grows u.config b.sensor_id b.timestamp m.columns (state_of timed) bore.all bore.bears
 
-      still : (state_of timed).sequences ≡ sequences_of u
-      unfolding state_of sequences_of
-      still = refl
+    still : (state_of timed).sequences ≡ sequences_of u
+    unfolding state_of sequences_of
+    still = refl
 
-      many : length bore.all.fates ≡ length m.columns
-      unfolding births_after
-      many =
-          let p = bound (remaining u.config.birth_candidate_timeout_ns b.timestamp (state_of timed).candidates) _ bore.all bore.bears in
-          births_length u.config b.sensor_id b.timestamp (confirmed_places (state_of timed).tracks) m.columns (with_candidates p.0 (state_of timed)) bore.all p.2
+    many : length bore.all.fates ≡ length m.columns
+    unfolding births_after
+    many =
+        let p = bound (remaining u.config.birth_candidate_timeout_ns b.timestamp (state_of timed).candidates) _ bore.all bore.bears in
+        births_length u.config b.sensor_id b.timestamp (confirmed_places (state_of timed).tracks) m.columns (with_candidates p.0 (state_of timed)) bore.all p.2
 
-      abbrev done_all : Done
-      done_all = done_with b m bore.all
+    abbrev done_all : Done
+    done_all = done_with b m bore.all
 
-      finished_given : given done_all ≡ finished u.config (state_of u) b m
-      finished_given = sym (finished_as ∙ ap (λ (x : Reply Births). and_then x (λ y. given (done_with b m y))) bore.bears)
+    finished_given : given done_all ≡ finished u.config (state_of u) b m
+    finished_given = sym (finished_as ∙ ap (λ (x : Reply Births). and_then x (λ y. given (done_with b m y))) bore.bears)
 
-      abbrev report : BatchReport3D
-      report =
-          record {
-            timestamp = b.timestamp;
-            sensor_id = b.sensor_id;
-            associations = w.associations;
-            association_count = b.count;
-            unmatched_track_ids = ids;
-            unmatched_track_count = k;
-          }
+    abbrev report : BatchReport3D
+    report =
+        record {
+          timestamp = b.timestamp;
+          sensor_id = b.sensor_id;
+          associations = w.associations;
+          association_count = b.count;
+          unmatched_track_ids = ids;
+          unmatched_track_count = k;
+        }
 
-      reported : b.count ≤ 64 → length pairs ≡ 64 → length b.observations ≡ 64 → length ids ≡ 64 → k ≤ 64 → ids ≡ lay (take k ids) (replicate 64 0) → report ≡ whole_report done_all.report
-      unfolding done_with whole_report over_report
-      reported few sp sd si sk e =
-          let a : w.associations ≡ lay (associations_from 0 bore.all.fates) blanks = walks.told ∙ ap told_in bore.bears in
-          let c : b.count ≡ length (associations_from 0 bore.all.fates) =
-          sym (told_length 0 bore.all.fates ∙ many ∙ columns_length pairs b.observations b.count b.count sp sd (omega arith)) in
-          let n : k ≡ length (take k ids) = sym (length-take-le k ids (omega arith)) in
-          λ i. record {
-            timestamp = b.timestamp;
-            sensor_id = b.sensor_id;
-            associations = a i;
-            association_count = c i;
-            unmatched_track_ids = e i;
-            unmatched_track_count = n i;
-          }
+    reported : b.count ≤ 64 → length pairs ≡ 64 → length b.observations ≡ 64 → length ids ≡ 64 → k ≤ 64 → ids ≡ lay (take k ids) (replicate 64 0) → report ≡ whole_report done_all.report
+    unfolding done_with whole_report over_report
+    reported few sp sd si sk e =
+        let a : w.associations ≡ lay (associations_from 0 bore.all.fates) blanks = ap (λ (x : Walked). x.associations) bore.same in
+        let c : b.count ≡ length (associations_from 0 bore.all.fates) =
+        sym (told_length 0 bore.all.fates ∙ many ∙ columns_length pairs b.observations b.count b.count sp sd (omega arith)) in
+        let n : k ≡ length (take k ids) = sym (length-take-le k ids (omega arith)) in
+        λ i. record {
+          timestamp = b.timestamp;
+          sensor_id = b.sensor_id;
+          associations = a i;
+          association_count = c i;
+          unmatched_track_ids = e i;
+          unmatched_track_count = n i;
+        }
 
-      laid : (x : Cartesian3DTracker) → room_for 32 b.sensor_id (sequences_of u) ≡ true → x ≡ over_sequences w.tracker (noted_in 32 b.sensor_id b.sequence (sequences_of w.tracker)) → x ≡ over_state u done_all.state
-      unfolding done_with
-      laid x room ex =
-          sequence_noted u w.tracker x bore.all.state b.sensor_id b.sequence (bore.whole ∙ over_timed bore.all.state)
-          (ap (room_for 32 b.sensor_id) (ended.sequences ∙ still) ∙ room) ex
+    laid : (x : Cartesian3DTracker) → room_for 32 b.sensor_id (sequences_of u) ≡ true → x ≡ over_sequences w.tracker (noted_in 32 b.sensor_id b.sequence (sequences_of w.tracker)) → x ≡ over_state u done_all.state
+    unfolding done_with
+    laid x room ex =
+        sequence_noted u w.tracker x bore.all.state b.sensor_id b.sequence (ap (λ (y : Walked). y.tracker) bore.same ∙ over_timed bore.all.state)
+        (ap (room_for 32 b.sensor_id) (ended.sequences ∙ still) ∙ room) ex
 
-      pub finish_done : (x : Cartesian3DTracker) → b.count ≤ 64 → room_for 32 b.sensor_id (sequences_of u) ≡ true → ids ≡ lay (take k ids) (replicate 64 0) → k ≤ 64
-          → length pairs ≡ 64 → length b.observations ≡ 64 → length ids ≡ 64 → x ≡ over_sequences w.tracker (noted_in 32 b.sensor_id b.sequence (sequences_of w.tracker))
-          → Finishes u b m (record { outcome = Ok tt; tracker = x; report = report })
-      finish_done x few room e sk sp sd si ex =
-          record { tracker = carries_out u x done_all.state _ (laid x room ex) (ap state_given finished_given); reported = reported few sp sd si sk e ∙ ap report_after finished_given }
+    pub finish_done : (x : Cartesian3DTracker) → b.count ≤ 64 → room_for 32 b.sensor_id (sequences_of u) ≡ true → ids ≡ lay (take k ids) (replicate 64 0) → k ≤ 64
+        → length pairs ≡ 64 → length b.observations ≡ 64 → length ids ≡ 64 → x ≡ over_sequences w.tracker (noted_in 32 b.sensor_id b.sequence (sequences_of w.tracker))
+        → given (record { tracker = x; report = report }) ≡ finished_on u (finished u.config (state_of u) b m)
+    finish_done x few room e sk sp sd si ex =
+        let l = laid x room ex in
+        let r = reported few sp sd si sk e in
+        (λ i. given (record { tracker = l i; report = r i })) ∙ ap (finished_on u) finished_given

@@ -1,33 +1,32 @@
 -- What the stages of a batch answer, each on the whole tracker.
-use Rattle.std.specs.Prelude.{ℕ, ◌≡◌, false, List, map, ℤ, take, Err, Option}
-use Rattle.number.specs.Reply.{Reply, given, and_then, left_in}
+use Rattle.std.specs.Prelude.{ℕ, ◌≡◌, false, List, map, ℤ, take, Err, Ok, Option, Result}
+use Rattle.number.specs.Reply.{Reply, refused, given, and_then}
 use Rattle.detections.specs.declared.Detection.{Detection}
 use Rattle.types.specs.declared.batch.ObservationBatch3D.{ObservationBatch3D}
 use Rattle.types.specs.declared.refusal.Refusal.{Refusal}
 use Rattle.types.specs.declared.tracker.Cartesian3DTracker.{Cartesian3DTracker}
 use Rattle.types.specs.declared.track.Track3D.{Track3D}
 use Rattle.types.specs.Track.{with_mark}
-use Rattle.types.specs.Refusals.{answered}
-use Rattle.types.specs.Batches.{blank_report}
-use Rattle.types.specs.States.{State, state_with, state_of, tracks_of, sequences_of, candidates_of, over_tracks}
+use Rattle.types.specs.Refusals.{number_of}
+use Rattle.types.specs.Batches.{whole_report}
+use Rattle.types.specs.States.{State, state_with, state_of, tracks_of, sequences_of, candidates_of, over_tracks, over_state}
 use Rattle.calls.specs.Predict.{predicted_tracks}
 use Rattle.calls.specs.Pairing.{pair_config}
 use Rattle.calls.specs.Update.{Matched, matched_with}
-use Rattle.calls.specs.Process.{finished}
-use Rattle.calls.specs.Run.{state_given}
-use Rattle.calls.specs.Answers.{Answers, report_after}
+use Rattle.calls.specs.Process.{Done}
 use Rattle.association.specs.declared.Pair.{Pair}
 use Rattle.matching.specs.Stage.{takers_for, Matches}
 use Rattle.association.specs.Told.{columns_from}
+use Rattle.stages.specs.declared.Finished.{Finished}
 use Rattle.stages.specs.declared.Matching.{Matching}
-use Rattle.stages.specs.declared.Reported.{Reported}
-
-abbrev pub refused_with : Cartesian3DTracker → Refusal → Reported
-refused_with t why = record { outcome = Err why; tracker = t; report = blank_report }
 
 -- the tracker's own state with other tracks
 abbrev pub tracks_in : Cartesian3DTracker → List Track3D → State
 tracks_in t l = state_with l (sequences_of t) (candidates_of t) (state_of t)
+
+-- the whole tracker with the state that a reply gives
+abbrev pub laid_over : Cartesian3DTracker → Reply State → Reply Cartesian3DTracker
+laid_over t reply = and_then reply (λ s. given (over_state t s))
 
 -- stages 2 and 3
 unfoldable pub prepared_state : Cartesian3DTracker → ℤ → Reply State
@@ -52,13 +51,16 @@ match_reply u b = matched_with u.config b.sensor_id b.timestamp (seen_in b) (tra
 abbrev pub matched_by : ObservationBatch3D → Matching → Matched
 matched_by b r = matched_in r.tracker b r.paired.pairs r.paired.unmatched r.paired.unmatched_count
 
--- the reply, the whole tracker, and all that the pairing tells, also where an update is refused after it
-pub record MatchAnswers (u : Cartesian3DTracker) (b : ObservationBatch3D) (r : Matching) : Type 0 where
-  pub is : answered r.outcome (matched_by b r) ≡ match_reply u b
-  pub whole : r.tracker ≡ left_in (and_then (match_reply u b) (λ m. given (over_tracks u m.tracks))) u
-  pub pairing : Matches (pair_config u.config) (tracks_of u) (seen_in b) (takers_in u b) r.paired
+-- all that is handed over: the tracks updated, in the tracker that is else as it was, and what the pairing tells
+pub record HandsOver (u : Cartesian3DTracker) (b : ObservationBatch3D) (r : Matching) : Type 0 where
+  pub is : match_reply u b ≡ given (matched_by b r)
+  pub whole : r.tracker ≡ over_tracks u (tracks_of r.tracker)
+  pub pairing : Matches (pair_config u.config) (tracks_of u) (seen_in b) (takers_in u b) (Ok r.paired)
 
--- stages 7 to 9
-pub record Finishes (u : Cartesian3DTracker) (b : ObservationBatch3D) (m : Matched) (r : Reported) : Type 0 where
-  pub tracker : Answers u r.tracker r.outcome (state_given (finished u.config (state_of u) b m))
-  pub reported : r.report ≡ report_after (finished u.config (state_of u) b m)
+abbrev pub MatchAnswers : Cartesian3DTracker → ObservationBatch3D → Result Matching Refusal → Type 0
+MatchAnswers u b (Ok r) = HandsOver u b r
+MatchAnswers u b (Err why) = match_reply u b ≡ refused (number_of why)
+
+-- stages 7 to 9, and a whole batch: the tracker and the report, by the reply of these stages
+abbrev pub finished_on : Cartesian3DTracker → Reply Done → Reply Finished
+finished_on u reply = and_then reply (λ d. given (record { tracker = over_state u d.state; report = whole_report d.report }))

@@ -3,38 +3,34 @@
 
 ghost use Rattle.std.specs.Prelude.{◌≡◌, true, ◌≤◌, take, replicate};
 ghost use Rattle.lists.specs.Lay.{lay};
-ghost use Rattle.number.specs.Reply.{given};
+ghost use Rattle.number.specs.Reply.{given, reply_by};
+ghost use Rattle.types.specs.Refusals.{number_of};
 ghost use Rattle.types.specs.States.{state_of, tracks_of, sequences_of, over_state};
 ghost use Rattle.types.specs.Batches.{blank_report};
 ghost use Rattle.tables.specs.Sequences.{room_for};
 ghost use Rattle.batches.specs.Check.{detections_reply};
 ghost use Rattle.calls.specs.Pairing.{pair_config};
-ghost use Rattle.calls.specs.Answers.{Answers};
+ghost use Rattle.calls.specs.Process.{finished};
 ghost use Rattle.matching.specs.Stage.{Matches};
-ghost use Rattle.stages.specs.Stages.{refused_with, prepared_state, seen_in, takers_in, MatchAnswers, matched_in, Finishes};
+ghost use Rattle.stages.specs.Stages.{laid_over, prepared_state, seen_in, takers_in, MatchAnswers, matched_by, finished_on};
 
-use association::Pair;
 use detections::pairs::PairConfig;
 use matching::Paired;
-use moving::TrackerStep;
-use settings::Cartesian3DTrackerConfig;
 use types::batch::{BatchReport3D, ObservationAssociation, ObservationBatch3D, ObservationOutcome};
 use types::refusal::Refusal;
 use types::tracker::Cartesian3DTracker;
 use types::{MAX_CANDIDATES, MAX_OBSERVATIONS, MAX_SEQUENCES, MAX_TRACKS};
 
-// Whether a batch was carried out, the tracker after it, and the report, which is blank beside a refusal.
+// A batch that is carried out: the tracker after it, and the report.
 #[derive(Clone, Copy)]
-pub struct Reported {
-    pub outcome: Result<(), Refusal>,
+pub struct Finished {
     pub tracker: Cartesian3DTracker,
     pub report: BatchReport3D,
 }
 
-// Whether the pairing and the updates were carried out, the tracker after them, and what the pairing tells.
+// The tracker after the pairing and the updates, and what the pairing tells.
 #[derive(Clone, Copy)]
 pub struct Matching {
-    pub outcome: Result<(), Refusal>,
     pub tracker: Cartesian3DTracker,
     pub paired: Paired,
 }
@@ -70,38 +66,16 @@ pub fn blank_report() -> BatchReport3D
     }
 }
 
-// A batch that is refused leaves the tracker as it was.
-pub fn refuse(t: Cartesian3DTracker, why: Refusal) -> Reported
-    ensures { result ≡ refused_with t why }
-{
-    Reported {
-        outcome: Err(why),
-        tracker: t,
-        report: blank_report(),
-    }
-}
-
 // Stages 2 and 3: the tracks at the batch's time, with no mark.
-pub fn prepare(t: Cartesian3DTracker, time: i64) -> TrackerStep
-    ensures { Answers t result.tracker result.outcome (prepared_state t time) }
+pub fn prepare(t: Cartesian3DTracker, time: i64) -> Result<Cartesian3DTracker, Refusal>
+    ensures { reply_by number_of result ≡ laid_over t (prepared_state t time) }
 {
-    let step = moving::move_tracks(with_counts(t), time);
-    let outcome = step.outcome;
-    let moved = step.tracker;
-    match outcome {
-        Err(why) => TrackerStep {
-            outcome: Err(why),
-            tracker: t,
-        },
-        Ok(()) => TrackerStep {
-            outcome: Ok(()),
-            tracker: tables::tracks::clear_marks(moved),
-        },
-    }
+    let moved = moving::move_tracks(with_counts(t), time)?;
+    Ok(tables::tracks::clear_marks(moved))
 }
 
 // Stage 5 and what comes before it: the pairing of the tracks with the batch's detections.
-fn pair(u: Cartesian3DTracker, batch: ObservationBatch3D) -> Paired
+fn pair(u: Cartesian3DTracker, batch: ObservationBatch3D) -> Result<Paired, Refusal>
     ensures { Matches (pair_config u.config) (tracks_of u) (seen_in batch) (takers_in u batch) result }
 {
     let config = u.config;
@@ -126,72 +100,44 @@ fn pair(u: Cartesian3DTracker, batch: ObservationBatch3D) -> Paired
 
 // Stages 4 to 6, on a tracker whose tracks are at the batch's time: the pairing and the updates. The batch has passed its check.
 // A leaf: only a batch that has passed comes here, so that no detection is checked twice.
-pub fn match_tracks(u: Cartesian3DTracker, batch: ObservationBatch3D) -> Matching
+pub fn match_tracks(u: Cartesian3DTracker, batch: ObservationBatch3D) -> Result<Matching, Refusal>
     requires { detections_reply (seen_in batch) ≡ given tt }
     ensures { MatchAnswers u batch result }
 {
-    let config = u.config;
-    let observations = batch.observations;
-    let paired = pair(u, batch);
-    let outcome = paired.outcome;
-    let mates = paired.mates;
-    match outcome {
-        Err(why) => Matching {
-            outcome: Err(why),
-            tracker: u,
-            paired,
-        },
-        Ok(()) => {
-            let update = updating::update_of(config, batch.sensor_id, batch.timestamp);
-            let step = updating::update_tracks(u, observations, mates, update);
-            let after = step.outcome;
-            let tracker = step.tracker;
-            Matching {
-                outcome: after,
-                tracker,
-                paired,
-            }
-        }
-    }
+    let paired = pair(u, batch)?;
+    let update = updating::update_of(u.config, batch.sensor_id, batch.timestamp);
+    let tracker = updating::update_tracks(u, batch.observations, paired.mates, update)?;
+    Ok(Matching { tracker, paired })
 }
 
 // Stages 7 to 9, on a tracker whose tracks are updated: the births, the sensor's sequence, the report.
 // A leaf: the check has found room for the sensor, and the pairing has told the unmatched numbers with zeros behind them.
-pub fn finish(
-    u: Cartesian3DTracker,
-    batch: ObservationBatch3D,
-    pairs: [Pair; MAX_OBSERVATIONS],
-    unmatched: [u64; MAX_TRACKS],
-    unmatched_count: usize,
-) -> Reported
-    requires { (batch.count ≤ 64) × (room_for 32 batch.sensor_id (sequences_of u) ≡ true) × (unmatched ≡ lay (take unmatched_count unmatched) (replicate 64 0)) × (unmatched_count ≤ 64) }
-    ensures { Finishes u batch (matched_in u batch pairs unmatched unmatched_count) result }
+pub fn finish(m: Matching, batch: ObservationBatch3D) -> Result<Finished, Refusal>
+    requires { (batch.count ≤ 64) × (room_for 32 batch.sensor_id (sequences_of m.tracker) ≡ true) × (m.paired.unmatched ≡ lay (take m.paired.unmatched_count m.paired.unmatched) (replicate 64 0)) × (m.paired.unmatched_count ≤ 64) }
+    ensures { reply_by number_of result ≡ finished_on m.tracker (finished m.tracker.config (state_of m.tracker) batch (matched_by batch m)) }
 {
-    let observations = batch.observations;
-    let sensor = batch.sensor_id;
-    let time = batch.timestamp;
-    let count = batch.count;
-    let timed = moving::with_time(u, time);
-    let walked = birth_stage::births(timed, observations, pairs, count, time, sensor);
-    let outcome = walked.outcome;
-    let tracker = walked.tracker;
+    let paired = m.paired;
+    let timed = moving::with_time(m.tracker, batch.timestamp);
+    let walked = birth_stage::births(
+        timed,
+        batch.observations,
+        paired.pairs,
+        batch.count,
+        batch.timestamp,
+        batch.sensor_id,
+    )?;
     let associations = walked.associations;
-    match outcome {
-        Err(why) => refuse(u, why),
-        Ok(()) => {
-            let report = BatchReport3D {
-                timestamp: time,
-                sensor_id: sensor,
-                associations,
-                association_count: count,
-                unmatched_track_ids: unmatched,
-                unmatched_track_count: unmatched_count,
-            };
-            Reported {
-                outcome: Ok(()),
-                tracker: tables::sequences::note_sequence(tracker, sensor, batch.sequence),
-                report,
-            }
-        }
-    }
+    let unmatched_track_ids = paired.unmatched;
+    let report = BatchReport3D {
+        timestamp: batch.timestamp,
+        sensor_id: batch.sensor_id,
+        associations,
+        association_count: batch.count,
+        unmatched_track_ids,
+        unmatched_track_count: paired.unmatched_count,
+    };
+    Ok(Finished {
+        tracker: tables::sequences::note_sequence(walked.tracker, batch.sensor_id, batch.sequence),
+        report,
+    })
 }

@@ -1,4 +1,5 @@
 // The symmetric part of a sum of two matrices by value. Every number is equal bit for bit to the definition of any size in matrix/specs/Matrix.antt.
+// That an index lies below a size is a clause of each function that takes one: no type says it of the number of a const parameter.
 #![tactic(auto)]
 
 ghost use Rattle.std.specs.Prelude.{◌≡◌, ◌<◌};

@@ -1,5 +1,6 @@
 // Whether a matrix counts as symmetric. Each answer is equal bit for bit to the definition of any size in specs/.
 // A matrix that equals its transpose is within every tolerance, so that is asked first.
+// That an index lies below a size is a clause of each function that takes one: no type says it of the number of a const parameter.
 #![tactic(auto)]
 
 ghost use Rattle.std.specs.Prelude.{◌≡◌, ◌<◌};

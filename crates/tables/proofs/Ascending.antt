@@ -1,14 +1,15 @@
 -- Where a sensor's sequence number stands, and where it is noted. Assumes nothing.
-use Rattle.std.specs.Prelude.{None, Some, Option}
+use Rattle.std.specs.Prelude.{None, Some, Option, is_some}
 use mathlib.Core.Path.{◌≡◌, refl, ap, sym, subst, ◌∙◌}
 use mathlib.Core.Bool.{Bool, true, false, cond}
-use mathlib.Core.List.{List, [], ◌∷◌, ◌++◌}
+use mathlib.Core.List.{List, [], ◌∷◌}
 use Prim.Native.Nat.{ℕ, zero, suc, ◌+◌, ◌≤◌, ◌<◌, min}
 use native.Mathlib.Omega.{arith}
 use lib.Dec.{eqb, ltb}
 use lib.ListN.{length, take, get_or, set}
 use lib.Seq.{get_or-take}
 use borrow.Author.Tests.{eq-eqb, ne_eqb, lt-ltb, le-ltb}
+use Rattle.std.specs.Bool.{then_some}
 use Rattle.lists.specs.First.{one_place_on, first_at}
 use Rattle.lists.specs.Table.{table, over_table, inserted}
 use Rattle.lists.proofs.Firsts.{Leads, first_leads, rest, passed}
@@ -78,8 +79,8 @@ known_noted : (most sensor q x : ℕ) (l m : List SensorSequence) → last_of se
 unfolding noted_in room_for
 known_noted most sensor q x l m h e = rw (h, e)
 
--- a search for the sensor's place, among the n that are taken, answered r
-module _ (a : List SensorSequence) (count n sensor : ℕ) (size : length a ≡ 32) (taken : n ≡ min count 32) (r : Option ℕ) (answer : r ≡ first_at (not_before sensor) (take n a)) where
+-- a search for the sensor's place answered r, where n places are taken
+module _ (a : List SensorSequence) (count n sensor : ℕ) (size : length a ≡ 32) (taken : n ≡ min count 32) (r : Option ℕ) (answer : r ≡ first_at (not_before sensor) (take count a)) where
   abbrev l : List SensorSequence
   l = take n a
 
@@ -89,11 +90,14 @@ module _ (a : List SensorSequence) (count n sensor : ℕ) (size : length a ≡ 3
   front : take count a ≡ l
   front = rows a 32 count n size taken
 
+  among : first_at (not_before sensor) l ≡ r
+  among = sym (answer ∙ ap (first_at (not_before sensor)) front)
+
   at_place : (i : ℕ) → r ≡ Some i → Leads (not_before sensor) no_sequence l i
-  at_place i e = first_leads (not_before sensor) no_sequence l i (sym answer ∙ e)
+  at_place i e = first_leads (not_before sensor) no_sequence l i (among ∙ e)
 
   no_place : r ≡ None → first_at (not_before sensor) l ≡ None
-  no_place e = sym answer ∙ e
+  no_place e = among ∙ e
 
   pub seat_inside : (i : ℕ) → r ≡ Some i → i < n
   seat_inside i e = omega (arith, (at_place i e).inside, rows_length a 32 count n size taken)
@@ -113,11 +117,12 @@ module _ (a : List SensorSequence) (count n sensor : ℕ) (size : length a ≡ 3
   last_other : (i : ℕ) → r ≡ Some i → ((here i).sensor ≡ sensor → ⊥) → last_of sensor l ≡ None
   last_other i e h = rw (is_other i e h) at (last_at sensor l i (at_place i e))
 
-  pub last_is_own : (i : ℕ) → r ≡ Some i → (here i).sensor ≡ sensor → last_of sensor (take count a) ≡ Some (here i).sequence
-  last_is_own i e h = ap (last_of sensor) front ∙ last_own i e h
-
-  pub last_is_other : (i : ℕ) → r ≡ Some i → ((here i).sensor ≡ sensor → ⊥) → last_of sensor (take count a) ≡ None
-  last_is_other i e h = ap (last_of sensor) front ∙ last_other i e h
+  pub last_there : (i : ℕ) → r ≡ Some i → last_of sensor (take count a) ≡ then_some (own sensor (here i)) (here i).sequence
+  last_there i e = ap (last_of sensor) front ∙ (rw (same_element i e) at (last_at sensor l i (at_place i e))) ∙ go (own sensor (here i))
+    where
+      go : (b : Bool) → cond b (Some (here i).sequence) None ≡ then_some b (here i).sequence
+      go true = refl
+      go false = refl
 
   pub last_is_nowhere : r ≡ None → last_of sensor (take count a) ≡ None
   last_is_nowhere e = ap (last_of sensor) front ∙ last_none sensor l (no_place e)
@@ -141,13 +146,13 @@ module _ (a : List SensorSequence) (count n sensor : ℕ) (size : length a ≡ 3
 
 -- ---- room
 
-pub room_new : (a : List SensorSequence) (count sensor : ℕ) → length a ≡ 32 → last_of sensor (take count a) ≡ None → ltb count 32 ≡ room_for 32 sensor (take count a)
+pub room_known : (l : List SensorSequence) (sensor : ℕ) → true ≡ is_some (last_of sensor l) → true ≡ room_for 32 sensor l
 unfolding room_for
-room_new a count sensor size h = rw h (sym (count_room a 32 count size))
+room_known l sensor h = rw (sym h)
 
-pub room_known : (l : List SensorSequence) (sensor q : ℕ) → last_of sensor l ≡ Some q → true ≡ room_for 32 sensor l
+pub room_new : (a : List SensorSequence) (count sensor : ℕ) → length a ≡ 32 → false ≡ is_some (last_of sensor (take count a)) → ltb count 32 ≡ room_for 32 sensor (take count a)
 unfolding room_for
-room_known l sensor q h = rw h
+room_new a count sensor size h = rw (sym h) (sym (count_room a 32 count size))
 
 -- ---- an entry put among the others
 

@@ -1,6 +1,6 @@
 -- Noted numbers are a map's: the sensor's own is the one noted, every other's stays, and the sensors still ascend. Assumes nothing.
 use Rattle.std.specs.Prelude.{None, Some}
-use mathlib.Core.Path.{◌≡◌, refl, sym, ◌∙◌}
+use mathlib.Core.Path.{◌≡◌, refl, sym}
 use mathlib.Core.Bool.{Bool, true, false, cond}
 use mathlib.Core.List.{List, [], ◌∷◌}
 use Prim.Native.Nat.{ℕ, ◌≤◌, ◌<◌}

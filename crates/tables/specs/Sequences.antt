@@ -1,5 +1,5 @@
 -- Sensors with their latest sequence numbers, ascending by sensor: the Rust's map. 01: "32 sensors with a sequence".
-use Rattle.std.specs.Prelude.{ℕ, ◌<◌, Bool, true, false, cond, ◌||◌, List, [], ◌∷◌, eqb, leb, ltb, length, None, Option, Some}
+use Rattle.std.specs.Prelude.{ℕ, ◌<◌, Bool, cond, ◌||◌, List, [], ◌∷◌, eqb, leb, ltb, length, None, Option, Some, is_some}
 use Rattle.lists.specs.Table.{Table, over_table, inserted}
 use Rattle.types.specs.declared.tracker.SensorSequence.{SensorSequence}
 use Rattle.tables.specs.declared.sequences.Sequences.{Sequences}
@@ -27,13 +27,9 @@ unfoldable pub noted : ℕ → ℕ → List SensorSequence → List SensorSequen
 noted sensor q [] = entry sensor q ∷ []
 noted sensor q (e ∷ l) = cond (not_before sensor e) (entry sensor q ∷ cond (eqb e.sensor sensor) l (e ∷ l)) (e ∷ noted sensor q l)
 
-abbrev pub known : Option ℕ → Bool
-known None = false
-known (Some q) = true
-
 -- 01, Batch: "11 a 33rd sensor"
 unfoldable pub room_for : ℕ → ℕ → List SensorSequence → Bool
-room_for most sensor l = known (last_of sensor l) || ltb (length l) most
+room_for most sensor l = is_some (last_of sensor l) || ltb (length l) most
 
 -- x before the one at i, where there is room for it
 abbrev pub inserted_in : ℕ → ℕ → SensorSequence → List SensorSequence → List SensorSequence

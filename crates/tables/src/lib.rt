@@ -11,5 +11,5 @@ pub mod tracks;
 pub fn taken(count: usize, most: usize) -> usize
     ensures { result ≡ min count most }
 {
-    if count < most { count } else { most }
+    count.min(most)
 }

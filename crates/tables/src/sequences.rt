@@ -14,89 +14,69 @@ pub struct Sequences {
     pub count: usize,
 }
 
-// Where the first sensor stands that isn't before this one.
-fn seat_of(entries: [SensorSequence; MAX_SEQUENCES], n: usize, sensor: u32) -> Option<usize>
-    requires { n ≤ 32 }
-    ensures { result ≡ first_at (not_before sensor) (take n entries) }
-{
-    for i in 0..n {
-        if sensor <= entries[i].sensor {
-            return Some(i);
+impl Sequences {
+    // Where the first sensor stands that isn't before this one.
+    fn seat_of(&self, sensor: u32) -> Option<usize>
+        ensures { result ≡ first_at (not_before sensor) (take self.now.count self.now.entries) }
+    {
+        let n = super::taken(self.count, MAX_SEQUENCES);
+        self.entries[..n].iter().position(|e| sensor <= e.sensor)
+    }
+
+    // The sensor's latest sequence number.
+    pub fn last(&self, sensor: u32) -> Option<u64>
+        ensures { result ≡ last_of sensor (take self.now.count self.now.entries) }
+    {
+        let e = self.entries[self.seat_of(sensor)?];
+        (e.sensor == sensor).then_some(e.sequence)
+    }
+
+    // Whether the sensor has a place, or there is one left for it.
+    pub fn has_room_for(&self, sensor: u32) -> bool
+        ensures { result ≡ room_for 32 sensor (take self.now.count self.now.entries) }
+    {
+        self.last(sensor).is_some() || self.count < MAX_SEQUENCES
+    }
+
+    // The entry at `at`, those from there on one place up, where there is room for one more. `note` meets what it asks: a place of a search, or the one behind the last.
+    fn insert(self, at: usize, entry: SensorSequence) -> Sequences
+        requires { at ≤ min self.count 32 }
+        ensures { result ≡ over self (inserted_in 32 at entry (take self.count self.entries)) }
+    {
+        let n = super::taken(self.count, MAX_SEQUENCES);
+        let mut entries = self.entries;
+        if n == MAX_SEQUENCES {
+            return Sequences { entries, count: n };
+        }
+        let mut waiting = entry;
+        for j in at..n {
+            let next = entries[j];
+            entries[j] = waiting;
+            waiting = next;
+        }
+        entries[n] = waiting;
+        Sequences {
+            entries,
+            count: n + 1,
         }
     }
-    None
-}
 
-// The sensor's latest sequence number. What only reads takes the one table that it reads, which is small beside the state.
-pub fn last_sequence(
-    entries: [SensorSequence; MAX_SEQUENCES],
-    count: usize,
-    sensor: u32,
-) -> Option<u64>
-    ensures { result ≡ last_of sensor (take count entries) }
-{
-    let n = super::taken(count, MAX_SEQUENCES);
-    match seat_of(entries, n, sensor) {
-        None => None,
-        Some(i) => {
-            let e = entries[i];
-            if e.sensor == sensor {
-                Some(e.sequence)
-            } else {
-                None
-            }
-        }
-    }
-}
-
-// Whether the sensor has a place, or there is one left for it.
-pub fn has_room_for(entries: [SensorSequence; MAX_SEQUENCES], count: usize, sensor: u32) -> bool
-    ensures { result ≡ room_for 32 sensor (take count entries) }
-{
-    match last_sequence(entries, count, sensor) {
-        None => count < MAX_SEQUENCES,
-        Some(_) => true,
-    }
-}
-
-// The entry at `at`, those from there on one place up, where there is room for one more. `note` meets what it asks: a place of a search, or the one behind the last.
-fn insert(s: Sequences, at: usize, entry: SensorSequence) -> Sequences
-    requires { at ≤ min s.count 32 }
-    ensures { result ≡ over s (inserted_in 32 at entry (take s.count s.entries)) }
-{
-    let n = super::taken(s.count, MAX_SEQUENCES);
-    let mut entries = s.entries;
-    if n == MAX_SEQUENCES {
-        return Sequences { entries, count: n };
-    }
-    let mut waiting = entry;
-    for j in at..n {
-        let next = entries[j];
-        entries[j] = waiting;
-        waiting = next;
-    }
-    entries[n] = waiting;
-    Sequences {
-        entries,
-        count: n + 1,
-    }
-}
-
-// The sensor's latest sequence number is this one; nothing changes where there is no room for the sensor.
-pub fn note(s: Sequences, sensor: u32, sequence: u64) -> Sequences
-    ensures { result ≡ over s (noted_in 32 sensor sequence (take s.count s.entries)) }
-{
-    let n = super::taken(s.count, MAX_SEQUENCES);
-    let mut entries = s.entries;
-    let entry = SensorSequence { sensor, sequence };
-    match seat_of(entries, n, sensor) {
-        None => insert(s, n, entry),
-        Some(i) => {
-            if entries[i].sensor == sensor {
-                entries[i] = entry;
-                Sequences { entries, count: n }
-            } else {
-                insert(s, i, entry)
+    // The sensor's latest sequence number is this one; nothing changes where there is no room for the sensor.
+    pub fn note(self, sensor: u32, sequence: u64) -> Sequences
+        ensures { result ≡ over self (noted_in 32 sensor sequence (take self.count self.entries)) }
+    {
+        let n = super::taken(self.count, MAX_SEQUENCES);
+        let mut entries = self.entries;
+        let entry = SensorSequence { sensor, sequence };
+        match self.seat_of(sensor) {
+            None => self.insert(n, entry),
+            Some(i) => {
+                if entries[i].sensor == sensor {
+                    entries[i] = entry;
+                    Sequences { entries, count: n }
+                } else {
+                    self.insert(i, entry)
+                }
             }
         }
     }
@@ -111,7 +91,7 @@ pub fn note_sequence(mut s: Cartesian3DTracker, sensor: u32, sequence: u64) -> C
         entries,
         count: s.sequence_count,
     };
-    let noted = note(held, sensor, sequence);
+    let noted = held.note(sensor, sequence);
     let sequences = noted.entries;
     s.sequences = sequences;
     s.sequence_count = noted.count;

@@ -31,12 +31,7 @@ pub fn find_track(s: Cartesian3DTracker, id: u64) -> Option<usize>
     ensures { result ≡ first_at (numbered id) (tracks_of s) }
 {
     let n = super::taken(s.track_count, MAX_TRACKS);
-    for i in 0..n {
-        if id == s.tracks[i].id {
-            return Some(i);
-        }
-    }
-    None
+    s.tracks[..n].iter().position(|t| id == t.id)
 }
 
 // The first track of the number with another prior; nothing changes where there is none.

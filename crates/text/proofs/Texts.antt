@@ -58,10 +58,6 @@ digits_short n = go (ltb n 10)
     go true = omega arith
     go false = omega arith
 
-pub item_short : (n : ℕ) → length (item_text n) ≤ 3
-unfolding item_text bytes_of
-item_short n = let h = digits_short n in omega arith
-
 pub item_is : (n : ℕ) → (32 ∷ []) ++ digits_of n ≡ item_text n
 unfolding item_text bytes_of
 item_is n = refl
@@ -69,10 +65,6 @@ item_is n = refl
 pub pair_is : (i j : ℕ) → (32 ∷ 40 ∷ []) ++ digits_of i ++ item_text j ++ (41 ∷ []) ≡ pair_text (pair_of i j)
 unfolding pair_text bytes_of
 pair_is i j = refl
-
-pub pair_short : (i j : ℕ) → length (pair_text (pair_of i j)) ≤ 8
-unfolding pair_text bytes_of
-pair_short i j = let h = digits_short i in let g = item_short j in simp (length-append) (omega arith)
 
 pub refused_is : (n : ℕ) → (40 ∷ 114 ∷ 101 ∷ 102 ∷ 117 ∷ 115 ∷ 101 ∷ 100 ∷ 32 ∷ []) ++ digits_of n ++ (41 ∷ 10 ∷ []) ≡ refused_text n
 unfolding refused_text bytes_of

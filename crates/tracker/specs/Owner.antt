@@ -1,5 +1,5 @@
--- A batch by its stages: `processReply` of calls, from the check on, from the move on, from the pairing on.
-use Rattle.std.specs.Prelude.{◌≡◌, List}
+-- A call that is refused, and the stages of a batch.
+use Rattle.std.specs.Prelude.{List, Err}
 use Rattle.number.specs.Reply.{Reply, and_then}
 use Rattle.types.specs.declared.batch.ObservationBatch3D.{ObservationBatch3D}
 use Rattle.types.specs.declared.track.Track3D.{Track3D}
@@ -8,10 +8,14 @@ use Rattle.types.specs.States.{state_of, tracks_of, sequences_of}
 use Rattle.batches.specs.Check.{batch_reply}
 use Rattle.calls.specs.Update.{matched, matched_with}
 use Rattle.calls.specs.Process.{Done, finished}
-use Rattle.calls.specs.Run.{state_given}
-use Rattle.calls.specs.Answers.{Answers, report_after}
-use Rattle.stages.specs.declared.Reported.{Reported}
 use Rattle.stages.specs.Stages.{seen_in}
+use Rattle.types.specs.declared.refusal.Refusal.{Refusal}
+use Rattle.tracker.specs.declared.Answered.{Answered}
+
+abbrev pub refused_with : Cartesian3DTracker → Refusal → Answered
+refused_with t why = record { outcome = Err why; tracker = t }
+
+-- ---- a batch by its stages: `process_reply` of calls, from the check on, from the move on, from the pairing on
 
 -- stage 1
 abbrev pub check_reply : Cartesian3DTracker → ObservationBatch3D → Reply (Unit {0})
@@ -24,8 +28,3 @@ rest_reply t b l = and_then (matched_with t.config b.sensor_id b.timestamp (seen
 -- stages 2 to 9
 abbrev pub moved_reply : Cartesian3DTracker → ObservationBatch3D → Reply Done
 moved_reply t b = and_then (matched t.config b.sensor_id b.timestamp (tracks_of t) (seen_in b)) (finished t.config (state_of t) b)
-
--- the whole tracker and the whole report, by the reply of these stages
-pub record Replies (t : Cartesian3DTracker) (reply : Reply Done) (r : Reported) : Type 0 where
-  pub tracker : Answers t r.tracker r.outcome (state_given reply)
-  pub reported : r.report ≡ report_after reply

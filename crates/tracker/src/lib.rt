@@ -2,29 +2,40 @@
 #![tactic(auto)]
 
 ghost use Rattle.std.specs.Prelude.{◌≡◌};
-ghost use Rattle.number.specs.Reply.{given};
-ghost use Rattle.types.specs.States.{tracks_of, over_state};
+ghost use Rattle.number.specs.Reply.{reply_by};
+ghost use Rattle.types.specs.Refusals.{number_of};
+ghost use Rattle.types.specs.States.{state_of};
+ghost use Rattle.calls.specs.Process.{process_reply};
 ghost use Rattle.calls.specs.Answers.{NewAnswers, PredictAnswers, PriorAnswers, SnapshotsAnswer, BatchAnswers};
-ghost use Rattle.stages.specs.Stages.{tracks_in};
-ghost use Rattle.tracker.specs.Owner.{check_reply, rest_reply, moved_reply, Replies};
+ghost use Rattle.stages.specs.Stages.{finished_on};
+ghost use Rattle.tracker.specs.Owner.{refused_with};
 
 use detections::pairs::ClassPrior;
 use settings::Cartesian3DTrackerConfig;
-use stages::Reported;
+use stages::Finished;
 use types::MAX_TRACKS;
-use types::batch::ObservationBatch3D;
+use types::batch::{BatchReport3D, ObservationBatch3D};
 use types::refusal::Refusal;
 use types::track::Snapshots;
 use types::tracker::Cartesian3DTracker;
 
 // Whether a call was carried out, and the tracker after it.
+// No `Result`: the tracker goes in by value and comes back in every answer, the old one beside a refusal.
 #[derive(Clone, Copy)]
 pub struct Answered {
     pub outcome: Result<(), Refusal>,
     pub tracker: Cartesian3DTracker,
 }
 
-// Whether the settings were accepted, and a tracker under them.
+// Whether a batch was carried out, the tracker after it, and the report, which is blank beside a refusal. No `Result`, as above.
+#[derive(Clone, Copy)]
+pub struct Reported {
+    pub outcome: Result<(), Refusal>,
+    pub tracker: Cartesian3DTracker,
+    pub report: BatchReport3D,
+}
+
+// Whether the settings were accepted, and a tracker under them. No `Result`, as above: a tracker is made of any settings.
 #[derive(Clone, Copy)]
 pub struct Created {
     pub outcome: Result<(), Refusal>,
@@ -42,21 +53,25 @@ pub fn new(config: Cartesian3DTrackerConfig) -> Created
     }
 }
 
+// A call that is refused gives the tracker back.
+fn refused(t: Cartesian3DTracker, why: Refusal) -> Answered
+    ensures { result ≡ refused_with t why }
+{
+    Answered {
+        outcome: Err(why),
+        tracker: t,
+    }
+}
+
 // The prior of the first track of the number; refused where there is none, or the confidence isn't finite.
 pub fn set_class_prior(t: Cartesian3DTracker, id: u64, label: u32, confidence: f64) -> Answered
     ensures { PriorAnswers t id label confidence result.tracker result.outcome }
 {
     if !number::float::is_finite(confidence) {
-        return Answered {
-            outcome: Err(Refusal::InvalidPrior),
-            tracker: t,
-        };
+        return refused(t, Refusal::InvalidPrior);
     }
     match tables::tracks::find_track(t, id) {
-        None => Answered {
-            outcome: Err(Refusal::InvalidPrior),
-            tracker: t,
-        },
+        None => refused(t, Refusal::InvalidPrior),
         Some(_) => Answered {
             outcome: Ok(()),
             tracker: tables::tracks::set_prior(
@@ -75,81 +90,50 @@ pub fn set_class_prior(t: Cartesian3DTracker, id: u64, label: u32, confidence: f
 pub fn predict_to(t: Cartesian3DTracker, timestamp: i64) -> Answered
     ensures { PredictAnswers t timestamp result.tracker result.outcome }
 {
-    let last = t.last_time;
-    if batches::is_before(last, timestamp) {
-        return Answered {
-            outcome: Err(Refusal::TimestampWentBackwards),
-            tracker: t,
-        };
+    if batches::is_before(t.last_time, timestamp) {
+        return refused(t, Refusal::TimestampWentBackwards);
     }
-    let step = moving::move_tracks(stages::with_counts(t), timestamp);
-    let outcome = step.outcome;
-    let moved = step.tracker;
-    match outcome {
-        Err(why) => Answered {
-            outcome: Err(why),
-            tracker: t,
-        },
-        Ok(()) => Answered {
+    match moving::move_tracks(stages::with_counts(t), timestamp) {
+        Err(why) => refused(t, why),
+        Ok(moved) => Answered {
             outcome: Ok(()),
             tracker: moving::with_time(moved, timestamp),
         },
     }
 }
 
-// Stages 4 to 9 of a batch, on u, which is t with its tracks at the batch's time.
-fn pair_and_finish(
-    t: Cartesian3DTracker,
-    u: Cartesian3DTracker,
-    batch: ObservationBatch3D,
-) -> Reported
-    requires { (check_reply t batch ≡ given tt) × (u ≡ over_state t (tracks_in t (tracks_of u))) }
-    ensures { Replies t (rest_reply t batch (tracks_of u)) result }
+// The stages of a batch, one after another.
+fn carry_out(t: Cartesian3DTracker, batch: ObservationBatch3D) -> Result<Finished, Refusal>
+    ensures { reply_by number_of result ≡ finished_on t (process_reply t.config (state_of t) batch) }
 {
-    let step = stages::match_tracks(u, batch);
-    let outcome = step.outcome;
-    let updated = step.tracker;
-    let paired = step.paired;
-    let pairs = paired.pairs;
-    let unmatched = paired.unmatched;
-    match outcome {
-        Err(why) => stages::refuse(t, why),
-        Ok(()) => {
-            let done = stages::finish(updated, batch, pairs, unmatched, paired.unmatched_count);
-            let ended = done.outcome;
-            match ended {
-                Err(why) => stages::refuse(t, why),
-                Ok(()) => done,
-            }
-        }
-    }
-}
-
-// Stages 2 to 9, for a batch that has passed its check.
-fn carry_out(t: Cartesian3DTracker, batch: ObservationBatch3D) -> Reported
-    requires { check_reply t batch ≡ given tt }
-    ensures { Replies t (moved_reply t batch) result }
-{
-    let step = stages::prepare(t, batch.timestamp);
-    let outcome = step.outcome;
-    let ready = step.tracker;
-    match outcome {
-        Err(why) => stages::refuse(t, why),
-        Ok(()) => pair_and_finish(t, ready, batch),
-    }
+    let config = t.config;
+    batches::validate_batch(
+        config.frame_id,
+        t.last_time,
+        t.sequences,
+        t.sequence_count,
+        batch,
+    )?;
+    let ready = stages::prepare(t, batch.timestamp)?;
+    let matched = stages::match_tracks(ready, batch)?;
+    stages::finish(matched, batch)
 }
 
 // A sensor's batch: the tracks at its time, paired with its detections and updated by them, and the births among the others. The report tells of each detection.
 pub fn process_batch_reported(t: Cartesian3DTracker, batch: ObservationBatch3D) -> Reported
     ensures { BatchAnswers t batch result.tracker result.outcome result.report }
 {
-    let config = t.config;
-    let frame = config.frame_id;
-    let last = t.last_time;
-    let sequences = t.sequences;
-    match batches::validate_batch(frame, last, sequences, t.sequence_count, batch) {
-        Err(why) => stages::refuse(t, why),
-        Ok(()) => carry_out(t, batch),
+    match carry_out(t, batch) {
+        Err(why) => Reported {
+            outcome: Err(why),
+            tracker: t,
+            report: stages::blank_report(),
+        },
+        Ok(done) => Reported {
+            outcome: Ok(()),
+            tracker: done.tracker,
+            report: done.report,
+        },
     }
 }
 

@@ -1,10 +1,8 @@
 -- What a list laid over a table leaves in the tracker, and in a report; the state of a fresh tracker. Assumes nothing.
-use Rattle.std.specs.Prelude.{None, Some, Option}
 use mathlib.Core.Path.{◌≡◌, refl, sym, ap, ◌∙◌}
 use mathlib.Core.List.{List}
 use Prim.Native.Nat.{ℕ, min, ◌≤◌}
 use lib.Dec.{ltb}
-use lib.IntN.{ℤ}
 use lib.ListN.{length, take, length-take}
 use Rattle.lists.specs.Lay.{lay}
 use Rattle.lists.specs.Table.{Table, table, over_table}
@@ -51,23 +49,15 @@ state_over_candidates s l = rw (candidates_over s l)
 
 -- ---- a whole state, and a whole report
 
-time_back : (o : Option ℤ) → (o) ≡ o
-time_back None = refl
-time_back (Some t) = refl
-
 pub state_over : (s : Cartesian3DTracker) (x : State) → state_of (over_state s x) ≡ x
 unfolding state_of tracks_of sequences_of candidates_of over_state
-state_over s x = rw (take_lay x.tracks s.tracks, take_lay x.sequences s.sequences, take_lay x.candidates s.candidates, time_back x.last)
+state_over s x = rw (take_lay x.tracks s.tracks, take_lay x.sequences s.sequences, take_lay x.candidates s.candidates)
 
 pub settings_over : (s : Cartesian3DTracker) (x : State) → (over_state s x).config ≡ s.config
 unfolding over_state
 settings_over s x = refl
 
 -- ---- counts that are no more than there are places
-
-last_back : (o : Option ℤ) → o ≡ (o)
-last_back None = refl
-last_back (Some t) = refl
 
 count_by : {A : Type 0} (a : List A) (most n k : ℕ) → length a ≡ most → k ≡ min n most → k ≡ length (take n a)
 count_by a most n k size e = e ∙ ap (min n) (sym size) ∙ sym (length-take n a)
@@ -82,7 +72,7 @@ counts_settled t n m candidates l st ss en em ec =
       tracks = sym (lay_own t.track_count t.tracks) i;
       track_count = count_by t.tracks 64 t.track_count n st en i;
       next_track_id = t.next_track_id;
-      last_time = last_back t.last_time i;
+      last_time = t.last_time;
       sequences = sym (lay_own t.sequence_count t.sequences) i;
       sequence_count = count_by t.sequences 32 t.sequence_count m ss em i;
       candidates = (ec i).array;

@@ -1,7 +1,11 @@
 -- The numbers of the refusals. 01, What each call declines.
 use Rattle.std.specs.Prelude.{ℕ, Err, Ok, Result}
 use Rattle.number.specs.Reply.{Reply, refused, given}
-use Rattle.settings.specs.Fields.{SettingsReply}
+use Rattle.math.specs.declared.linalg.Refusal as math
+use Rattle.math.specs.declared.linalg.Refusal.TheVariants as matrix
+use Rattle.assignment.specs.declared.AssignmentError.{AssignmentError}
+use Rattle.assignment.specs.declared.AssignmentError.TheVariants as assignment
+use Rattle.settings.specs.Fields.{SettingsReply, number_of_field}
 use Rattle.settings.specs.Fields as settings
 use Rattle.types.specs.declared.refusal.Refusal.{Refusal}
 use Rattle.types.specs.declared.refusal.Refusal.TheVariants.{InvalidConfig, FrameMismatch, TimestampWentBackwards, DuplicateBatch, NonFiniteValue, NotSymmetric, NotPositiveDefinite, TimestampOverflow, NonFiniteResult, AssignmentFailed, TooMany, InvalidPrior}
@@ -20,9 +24,24 @@ number_of AssignmentFailed = 10
 number_of TooMany = 11
 number_of InvalidPrior = 12
 
+-- ---- what the refusals of a call's parts are among them
+
+abbrev pub of_matrix : math.Refusal → Refusal
+of_matrix matrix.NonFiniteValue = NonFiniteValue
+of_matrix matrix.NotSymmetric = NotSymmetric
+of_matrix matrix.NotPositiveDefinite = NotPositiveDefinite
+of_matrix matrix.NonFiniteResult = NonFiniteResult
+
+abbrev pub of_assignment : AssignmentError → Refusal
+of_assignment assignment.TooMany = TooMany
+of_assignment assignment.NonFinite = NonFiniteResult
+of_assignment assignment.Failed = AssignmentFailed
+
+-- ---- what a call answers
+
 -- the field that 1 names; 0, which is no field's number, with any other refusal
 abbrev pub field_of : Refusal → ℕ
-field_of (InvalidConfig field) = field
+field_of (InvalidConfig field) = number_of_field field
 field_of FrameMismatch = 0
 field_of TimestampWentBackwards = 0
 field_of DuplicateBatch = 0

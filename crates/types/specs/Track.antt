@@ -29,14 +29,11 @@ with_filter f x = rebuilt f x.lifecycle x.class_label x.class_prior x.state_time
 abbrev pub with_lifecycle : TrackLifecycle → Track3D → Track3D
 with_lifecycle l x = rebuilt x.filter l x.class_label x.class_prior x.state_timestamp x.last_update_sensor x.contributing_sensors x.updated_this_batch x
 
-abbrev pub relabelled : Option ℕ → Option ClassPrior → Option ℕ → Track3D → Track3D
-relabelled label prior last x = rebuilt x.filter x.lifecycle label prior x.state_timestamp last x.contributing_sensors x.updated_this_batch x
-
 abbrev pub with_label : Option ℕ → Track3D → Track3D
-with_label label x = relabelled label x.class_prior x.last_update_sensor x
+with_label label x = rebuilt x.filter x.lifecycle label x.class_prior x.state_timestamp x.last_update_sensor x.contributing_sensors x.updated_this_batch x
 
 abbrev pub with_prior : Option ClassPrior → Track3D → Track3D
-with_prior prior x = relabelled x.class_label prior x.last_update_sensor x
+with_prior prior x = rebuilt x.filter x.lifecycle x.class_label prior x.state_timestamp x.last_update_sensor x.contributing_sensors x.updated_this_batch x
 
 abbrev pub with_timestamp : ℤ → Track3D → Track3D
 with_timestamp time x = rebuilt x.filter x.lifecycle x.class_label x.class_prior time x.last_update_sensor x.contributing_sensors x.updated_this_batch x

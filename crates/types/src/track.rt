@@ -1,6 +1,6 @@
 // A track, a setter for each part of it that calls change, and what is shown of it.
 ghost use Rattle.std.specs.Prelude.{◌≡◌};
-ghost use Rattle.types.specs.Track.{with_filter, with_lifecycle, with_label, with_prior, with_timestamp, with_sensors, with_mark, relabelled, snapshot_of};
+ghost use Rattle.types.specs.Track.{with_filter, with_lifecycle, with_label, with_prior, with_timestamp, with_sensors, with_mark, snapshot_of};
 
 use detections::pairs::ClassPrior;
 use filter::KalmanFilter;
@@ -47,83 +47,63 @@ pub struct Snapshots {
     pub count: usize,
 }
 
-pub fn with_filter(mut t: Track3D, filter: KalmanFilter) -> Track3D
+pub fn with_filter(t: Track3D, filter: KalmanFilter) -> Track3D
     ensures { result ≡ with_filter filter t }
 {
-    t.filter = filter;
-    t
+    Track3D { filter, ..t }
 }
 
-pub fn with_lifecycle(mut t: Track3D, lifecycle: TrackLifecycle) -> Track3D
+pub fn with_lifecycle(t: Track3D, lifecycle: TrackLifecycle) -> Track3D
     ensures { result ≡ with_lifecycle lifecycle t }
 {
-    t.lifecycle = lifecycle;
-    t
+    Track3D { lifecycle, ..t }
 }
 
-pub fn with_state_timestamp(mut t: Track3D, timestamp: i64) -> Track3D
+pub fn with_state_timestamp(t: Track3D, timestamp: i64) -> Track3D
     ensures { result ≡ with_timestamp timestamp t }
 {
-    t.state_timestamp = timestamp;
-    t
+    Track3D {
+        state_timestamp: timestamp,
+        ..t
+    }
 }
 
-pub fn with_mark(mut t: Track3D, updated: bool) -> Track3D
+pub fn with_mark(t: Track3D, updated: bool) -> Track3D
     ensures { result ≡ with_mark updated t }
 {
-    t.updated_this_batch = updated;
-    t
-}
-
-// The one place that builds a track anew from its parts: a field that is an enum can't be stored to.
-fn relabel(
-    t: Track3D,
-    label: Option<u32>,
-    prior: Option<ClassPrior>,
-    sensor: Option<u32>,
-) -> Track3D
-    ensures { result ≡ relabelled label prior sensor t }
-{
-    let filter = t.filter;
-    let lifecycle = t.lifecycle;
-    let contributing_sensors = t.contributing_sensors;
     Track3D {
-        id: t.id,
-        filter,
-        lifecycle,
-        class_label: label,
-        class_prior: prior,
-        state_timestamp: t.state_timestamp,
-        last_update_sensor: sensor,
-        contributing_sensors,
-        updated_this_batch: t.updated_this_batch,
+        updated_this_batch: updated,
+        ..t
     }
 }
 
 pub fn with_class_label(t: Track3D, label: Option<u32>) -> Track3D
     ensures { result ≡ with_label label t }
 {
-    let prior = t.class_prior;
-    let sensor = t.last_update_sensor;
-    relabel(t, label, prior, sensor)
+    Track3D {
+        class_label: label,
+        ..t
+    }
 }
 
 pub fn with_class_prior(t: Track3D, prior: Option<ClassPrior>) -> Track3D
     ensures { result ≡ with_prior prior t }
 {
-    let label = t.class_label;
-    let sensor = t.last_update_sensor;
-    relabel(t, label, prior, sensor)
+    Track3D {
+        class_prior: prior,
+        ..t
+    }
 }
 
 // The sensor of the latest update, and all that contributed.
-pub fn with_sensors(mut t: Track3D, last: Option<u32>, sensors: Sensors) -> Track3D
+pub fn with_sensors(t: Track3D, last: Option<u32>, sensors: Sensors) -> Track3D
     ensures { result ≡ with_sensors last sensors t }
 {
-    let label = t.class_label;
-    let prior = t.class_prior;
-    t.contributing_sensors = sensors;
-    relabel(t, label, prior, last)
+    Track3D {
+        last_update_sensor: last,
+        contributing_sensors: sensors,
+        ..t
+    }
 }
 
 // What is shown of a track.

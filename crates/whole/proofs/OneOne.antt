@@ -1,8 +1,8 @@
 -- A map of the numbers below n into themselves that is one to one meets each of them, and a sum over it is the sum over all. So a pairing on
 -- tight entries, under potentials that no entry is below, has the least total.
-use mathlib.Core.Path.{◌≡◌, refl, sym, ap, ◌∙◌, subst}
+use mathlib.Core.Path.{◌≡◌, sym, ap, ◌∙◌, subst}
 use mathlib.Core.Logic.{◌⊎◌, inl, inr}
-use mathlib.Core.Bool.{Bool, true, false, cond}
+use mathlib.Core.Bool.{cond}
 use Prim.Native.Nat.{ℕ, zero, suc, ◌+◌, ◌≤◌, ◌<◌}
 use native.Mathlib.Nat.{eq-or-lt_of_le}
 use borrow.Author.Tests.{eq-eqb, ne_eqb}
@@ -10,7 +10,7 @@ use lib.Dec.{eqb}
 use native.Mathlib.Decide.{ℕ_discrete}
 use native.Mathlib.Omega.{arith}
 use Rattle.whole.specs.OneOne.{Inj}
-use Rattle.whole.specs.Integer.{Integer, ◌+Z◌, ◌-Z◌, ◌≤Z◌, ◌≈◌, 0_z, sum}
+use Rattle.whole.specs.Integer.{Integer, ◌+Z◌, ◌≤Z◌, ◌≈◌, 0_z, sum}
 
 -- is there a j below n with q j = i?
 abbrev pub Hit : (ℕ → ℕ) → ℕ → ℕ → Type 0

@@ -7,7 +7,7 @@ use native.Mathlib.Omega.{arith}
 use lib.Ieee.{Float, nan, inf, fin, up, down, lt}
 use lib.Ieee.Scale.{finite}
 use lib.Ieee.Fits.{down_pos}
-use Rattle.whole.specs.Integer.{Integer, 0_z, natural, neg_z, ◌≈◌}
+use Rattle.whole.specs.Integer.{Integer, ◌≈◌}
 use Rattle.whole.specs.Whole.{Signed, WholeValue, signed, whole_of}
 
 -- a whole double

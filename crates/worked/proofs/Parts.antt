@@ -12,7 +12,7 @@ use Rattle.finite.specs.Finite.{finite_vector, finite_matrix}
 use Rattle.symmetry.specs.Symmetry.{largest_in_row, largest, skew_row, skew, is_symmetric}
 use Rattle.cholesky.specs.Cholesky.{column_by, pivot_root, columns_from, cholesky}
 use Rattle.solving.specs.Solving.{forward, backward, solved, solved_columns, gain_by}
-use Rattle.definite.specs.Definite.{factorable}
+use Rattle.cholesky.specs.Definite.{factorable}
 use Rattle.math.specs.Linalg.{entries_checked, validated, distance_reply, distance_by, squared_distance}
 use Rattle.models.specs.Models.{transition, noise, selection}
 use Rattle.filter.specs.Kalman.{finished, moved, predict_reply, innovation, spread, corrected, gained, measured_with, measured_by, measured, checked, update_reply, distance_of}

@@ -1,6 +1,8 @@
+use Rattle.std.proofs.lemmas.Result.{err_from_is_err_and}
 use native.Mathlib.Omega.{arith}
 use mathlib.Core.Path.{sym, ap, ◌∙◌}
 use lib.ListN.{length}
+use Rattle.number.specs.Reply.{refused}
 use Rattle.assignment.proofs.Calls.{rows_over, columns_over, row_cost_bad, column_cost_bad, size_bad, checked}
 use Rattle.assignment.proofs.pair_columns.Goals as goal
 
@@ -22,8 +24,10 @@ returns-then-costs-rows c = (size_bad c.args.costs.now c.args.rows c.args.column
 pub pair_table-requires : goal.pair_table-requires
 pair_table-requires c = (omega (arith, c.if-rows-gt64.false), omega (arith, c.if-columns-gt64.false), c.if-costs-rows.false, c.requires)
 
-pub returns-then-pair_table : goal.returns-then-pair_table
-returns-then-pair_table c = (rw c.if-pair_table.true at c.pair_table.ensures.0 ∙ sym (checked c.args.costs.now c.args.rows c.args.columns c.args.row_cost c.args.column_cost (omega (arith, c.if-rows-gt64.false)) (omega (arith, c.if-columns-gt64.false)) (sym c.is_finite.ensures ∙ c.if-not-is_finite.false) (sym c.is_finite-2.ensures ∙ c.if-not-is_finite-2.false) c.if-costs-rows.false), c.pair_table.ensures.1)
+pub returns-in_err-pair_table : goal.returns-in_err-pair_table
+returns-in_err-pair_table c =
+    let p = err_from_is_err_and c.from_residual.result c.from_residual.ensures.1 in
+    (rw p.1 (ap refused p.2 ∙ c.in_err-pair_table.ensures.0 ∙ sym (checked c.args.costs.now c.args.rows c.args.columns c.args.row_cost c.args.column_cost (omega (arith, c.if-rows-gt64.false)) (omega (arith, c.if-columns-gt64.false)) (sym c.is_finite.ensures ∙ c.if-not-is_finite.false) (sym c.is_finite-2.ensures ∙ c.if-not-is_finite-2.false) c.if-costs-rows.false)), c.in_err-pair_table.ensures.1)
 
-pub returns-else-pair_table : goal.returns-else-pair_table
-returns-else-pair_table c = (rw c.if-pair_table.false at c.pair_table.ensures.0 ∙ sym (checked c.args.costs.now c.args.rows c.args.columns c.args.row_cost c.args.column_cost (omega (arith, c.if-rows-gt64.false)) (omega (arith, c.if-columns-gt64.false)) (sym c.is_finite.ensures ∙ c.if-not-is_finite.false) (sym c.is_finite-2.ensures ∙ c.if-not-is_finite-2.false) c.if-costs-rows.false), c.pair_table.ensures.1)
+pub returns : goal.returns
+returns c = (c.in_ok-pair_table.ensures.0 ∙ sym (checked c.args.costs.now c.args.rows c.args.columns c.args.row_cost c.args.column_cost (omega (arith, c.if-rows-gt64.false)) (omega (arith, c.if-columns-gt64.false)) (sym c.is_finite.ensures ∙ c.if-not-is_finite.false) (sym c.is_finite-2.ensures ∙ c.if-not-is_finite-2.false) c.if-costs-rows.false), c.in_ok-pair_table.ensures.1)

@@ -1,20 +1,21 @@
 -- The candidates' ages come first; where they are given, the walk's contract is the stage's by the laws of Staging.
-use mathlib.Core.Path.{ap}
-use lib.ListN.{replicate}
+use Rattle.std.proofs.lemmas.Result.{err_from_is_err_and}
 use mir.Facts.{to_z-of_z}
-use Rattle.types.specs.declared.batch.ObservationAssociation.{ObservationAssociation}
+use Rattle.number.specs.Reply.{reply_by}
+use Rattle.types.specs.Refusals.{number_of}
 use Rattle.association.specs.Told.{columns_from}
-use Rattle.birth_stage.proofs.Staging.{births_done, births_refused}
+use Rattle.birth_stage.proofs.Staging.{births_stops, births_done}
 use Rattle.birth_stage.proofs.births.Goals as goal
 
-pub returns-in-Ok : goal.returns-in-Ok
-returns-in-Ok c =
+pub returns-in_err-candidates : goal.returns-in_err-candidates
+returns-in_err-candidates c =
     let a = c.args in
-    births_done a.t a.sensor a.time (columns_from a.m a.pairs a.observations) c.age_by-aged.result (rw (to_z-of_z c.ranges.time) at c.age_by-aged.ensures) c.confirmed_places-places.result c.walk.result c.in-Ok.is
-    c.confirmed_places-places.ensures (rw (to_z-of_z c.ranges.time) at c.walk.ensures)
+    let p = err_from_is_err_and c.from_residual.result c.from_residual.ensures.1 in
+    rw (p.1, p.2)
+    (births_stops a.t a.sensor a.time (columns_from a.m a.pairs a.observations) (number_of c.in_err-candidates.field-0.0) (rw (c.candidates_of.ensures, to_z-of_z c.ranges.time) at c.in_err-candidates.ensures))
 
-pub returns-in-Err : goal.returns-in-Err
-returns-in-Err c =
+pub returns : goal.returns
+returns c =
     let a = c.args in
-    births_refused a.t a.sensor a.time (columns_from a.m a.pairs a.observations) c.age_by-aged.result (rw (to_z-of_z c.ranges.time) at c.age_by-aged.ensures) c.in-Err.why _ c.in-Err.is
-    (ap (λ (x : ObservationAssociation). replicate 64 x) c.alone-blank.ensures)
+    births_done a.t a.sensor a.time (columns_from a.m a.pairs a.observations) c.in_ok-candidates.candidates c.confirmed_places-places.result (reply_by number_of c.walk.result)
+    (rw (c.candidates_of.ensures, to_z-of_z c.ranges.time) at c.in_ok-candidates.ensures) c.confirmed_places-places.ensures (rw (to_z-of_z c.ranges.time) at c.walk.ensures)

@@ -8,4 +8,4 @@ returns-in-Ok c = rw (sym c.validate.ensures, c.in-Ok.is)
 
 pub returns-in-Err : goal.returns-in-Err
 unfolding check_answer
-returns-in-Err c = rw (sym c.validate.ensures, c.in-Err.is)
+returns-in-Err c = rw (sym c.validate.ensures, c.in-Err.is) c.from.ensures

@@ -4,7 +4,7 @@ use Rattle.cascade.proofs.Places.{places_none, places_set, places_all}
 use Rattle.cascade.proofs.name_columns.Goals as goal
 
 pub loop-j-init : goal.loop-j-init
-loop-j-init c = (omega arith, places_none _ _ c.requires.2)
+loop-j-init c = (omega arith, places_none _ _ c.requires.1)
 
 pub loop-j-preserved : goal.loop-j-preserved
 loop-j-preserved c =
@@ -13,6 +13,3 @@ loop-j-preserved c =
 
 pub returns : goal.returns
 returns c = places_all _ _ c.args.m c.loop-j.j _ (omega (arith, c.loop-j-test.false, c.loop-j.invariant.0)) c.loop-j.invariant.1
-
-pub column_name-requires : goal.column_name-requires
-column_name-requires c = c.requires.1

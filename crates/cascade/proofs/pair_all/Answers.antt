@@ -1,9 +1,17 @@
+use Rattle.std.proofs.lemmas.Result.{err_from_is_err_and}
 use mathlib.Core.Path.{◌∙◌}
-use Rattle.cascade.proofs.Whole.{with_takers, whole_assigned}
+use Rattle.cascade.proofs.Whole.{refused_with, whole_assigned}
 use Rattle.cascade.proofs.pair_all.Goals as goal
 
 pub returns : goal.returns
 returns c =
-    let p = c.pair_columns in
-    let s = c.before.before.before.before in
-    (with_takers p.result _ _ c.of_assignment.ensures ∙ p.ensures.0 ∙ whole_assigned s.args.n s.args.m s.args.costs.now s.args.gate s.requires.0, p.ensures.1)
+    let t = c.args.table in
+    let e = c.in_ok-pair_columns.ensures in
+    (e.0 ∙ whole_assigned t.rows t.columns t.costs.now c.args.gate c.requires.0, e.1)
+
+pub returns-in_err-pair_columns : goal.returns-in_err-pair_columns
+returns-in_err-pair_columns c =
+    let p = err_from_is_err_and c.from_residual.result c.from_residual.ensures.1 in
+    let t = c.args.table in
+    let e = c.in_err-pair_columns.ensures in
+    rw (p.1, p.2) (refused_with _ _ e.0 ∙ whole_assigned t.rows t.columns t.costs.now c.args.gate c.requires.0, e.1)

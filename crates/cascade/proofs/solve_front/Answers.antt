@@ -1,9 +1,10 @@
-use mathlib.Core.Path.{sym, ◌∙◌}
+use Rattle.std.proofs.lemmas.Result.{err_from_is_err_and}
+use mathlib.Core.Path.{sym}
 use Prim.Native.Nat.{ℕ, ◌*◌, ◌≤◌}
 use native.Mathlib.Nat.{mul-le-mul_right}
 use native.Mathlib.Omega.{arith}
 use lib.Seq.{length-take-le}
-use Rattle.cascade.proofs.Whole.{with_takers}
+use Rattle.cascade.proofs.Whole.{refused_with}
 use Rattle.cascade.proofs.solve_front.Goals as goal
 
 room : (r c : ℕ) → r ≤ 64 → c ≤ 64 → r * c ≤ 4096
@@ -19,4 +20,10 @@ pub pair_columns-requires : goal.pair_columns-requires
 pair_columns-requires c = c.before.before.before.requires.3
 
 pub returns : goal.returns
-returns c = let p = c.pair_columns in (with_takers p.result _ _ c.of_assignment.ensures ∙ p.ensures.0, p.ensures.1)
+returns c = c.in_ok-pair_columns.ensures
+
+pub returns-in_err-pair_columns : goal.returns-in_err-pair_columns
+returns-in_err-pair_columns c =
+    let p = err_from_is_err_and c.from_residual.result c.from_residual.ensures.1 in
+    let e = c.in_err-pair_columns.ensures in
+    rw (p.1, p.2) (refused_with _ _ e.0, e.1)

@@ -2,7 +2,7 @@
 use Rattle.std.proofs.lemmas.Result.{err_from_is_err_and}
 use Rattle.types.specs.declared.refusal.Refusal.{Refusal}
 use Rattle.std.specs.Prelude.{Err, Float, Ok, Option, Result}
-use Rattle.cholesky.specs.declared.Lower3.{Lower3}
+use Rattle.cholesky.specs.declared.Lower.{Lower}
 use mathlib.Core.Path.{◌≡◌, refl, sym, ap, ◌∙◌, subst}
 use mathlib.Core.Bool.{Bool, true}
 use mathlib.Core.List.{List, []}
@@ -12,7 +12,7 @@ use native.Mathlib.Omega.{arith}
 use Rattle.batches.proofs.Checks.{no_detection}
 use Rattle.number.specs.Reply.{Reply}
 use Rattle.matrix.specs.Matrix.{Vector, Matrix}
-use Rattle.cholesky.specs.Factor.{reply_of_factor3}
+use Rattle.cholesky.specs.Factor.{reply_of_factor}
 use Rattle.filter.specs.Filter.{factor_from}
 use Rattle.detections.specs.declared.pairs.PairConfig.{PairConfig}
 use Rattle.detections.specs.declared.pairs.Target.{Target}
@@ -33,22 +33,22 @@ loop-j-init c = (omega arith, (λ h. absurd (never h)), laying_none _ _ _ _)
     never h = omega arith
 
 -- what is held when the detection is priced, and that it serves
-abbrev Serves : PairConfig → Target → List Vector → ℕ → Option ℕ → Option Lower3 → ℕ → Type 0
+abbrev Serves : PairConfig → Target → List Vector → ℕ → Option ℕ → Option (Lower 3) → ℕ → Type 0
 Serves rule t noises j seen f held =
-    (held < 64 → reply_of_factor3 f ≡ factor_from t.expected (get_or noises held []))
-    × ((z : Vector) → priced_by rule t z seen (reply_of_factor3 f) ≡ price_reply rule t (sight z (get_or noises j []) seen))
+    (held < 64 → reply_of_factor f ≡ factor_from t.expected (get_or noises held []))
+    × ((z : Vector) → priced_by rule t z seen (reply_of_factor f) ≡ price_reply rule t (sight z (get_or noises j []) seen))
 
 module _ (rule : PairConfig) (t : Target) (noises : List Vector) (j k : ℕ) (seen : Option ℕ) (same : get_or noises k [] ≡ get_or noises j []) where
-  new_serves : (f : Option Lower3) (held : ℕ) → held ≡ k → reply_of_factor3 f ≡ factor_from t.expected (get_or noises j []) → Serves rule t noises j seen f held
+  new_serves : (f : Option (Lower 3)) (held : ℕ) → held ≡ k → reply_of_factor f ≡ factor_from t.expected (get_or noises j []) → Serves rule t noises j seen f held
   new_serves f held q own = (
     (λ w. own ∙ ap (factor_from t.expected) (sym same) ∙ sym (ap (λ (i : ℕ). factor_from t.expected (get_or noises i [])) q)),
     (λ z. priced_new rule t z seen noises k j same f own),
   )
 
-  held_serves : (f f₀ : Option Lower3) (held held₀ : ℕ) → held ≡ held₀ → f ≡ f₀ → (held₀ < 64 → reply_of_factor3 f₀ ≡ factor_from t.expected (get_or noises held₀ [])) → k < 64 → (compatible t.class_label seen ≡ true → held₀ ≡ k)
+  held_serves : (f f₀ : Option (Lower 3)) (held held₀ : ℕ) → held ≡ held₀ → f ≡ f₀ → (held₀ < 64 → reply_of_factor f₀ ≡ factor_from t.expected (get_or noises held₀ [])) → k < 64 → (compatible t.class_label seen ≡ true → held₀ ≡ k)
       → Serves rule t noises j seen f held
   held_serves f f₀ held held₀ q r v few due =
-      let s : held < 64 → reply_of_factor3 f ≡ factor_from t.expected (get_or noises held []) = λ w. ap reply_of_factor3 r ∙ v (subst (λ (i : ℕ). i < 64) q w) ∙ sym (ap (λ (i : ℕ). factor_from t.expected (get_or noises i [])) q) in
+      let s : held < 64 → reply_of_factor f ≡ factor_from t.expected (get_or noises held []) = λ w. ap reply_of_factor r ∙ v (subst (λ (i : ℕ). i < 64) q w) ∙ sym (ap (λ (i : ℕ). factor_from t.expected (get_or noises i [])) q) in
       (s, (λ z. priced_held rule t z seen noises k j same f held s few (λ e. q ∙ due e)))
 
 -- the price of the detection that was read
@@ -70,7 +70,7 @@ loop-j-preserved c =
     let few : get_or a.kin.now c.loop-j.j 0 < 64 = omega (arith, t, c.requires.0, c.requires.2.before c.loop-j.j t) in
     let s : Serves a.rule a.t a.noises.now c.loop-j.j c.class_at-seen.result c.if-is_due.factor c.if-is_due.held =
     elim c.if-is_due.branch [
-      | then-is_due w ↦ new_serves a.rule a.t a.noises.now c.loop-j.j (get_or a.kin.now c.loop-j.j 0) c.class_at-seen.result same _ _ w.held-is (ap reply_of_factor3 w.factor-is ∙ w.factor_from-factor.ensures)
+      | then-is_due w ↦ new_serves a.rule a.t a.noises.now c.loop-j.j (get_or a.kin.now c.loop-j.j 0) c.class_at-seen.result same _ _ w.held-is (ap reply_of_factor w.factor-is ∙ w.factor_from-factor.ensures)
       | else-is_due w ↦ held_serves a.rule a.t a.noises.now c.loop-j.j (get_or a.kin.now c.loop-j.j 0) c.class_at-seen.result same _ _ _ _ w.held-is w.factor-is v.1 few (c.is_due.ensures w.if-is_due.false)
     ] in (
       omega arith,
@@ -88,7 +88,7 @@ returns-in_err-cost c =
     let few : get_or a.kin.now c.loop-j.j 0 < 64 = omega (arith, t, c.requires.0, c.requires.2.before c.loop-j.j t) in
     let s : Serves a.rule a.t a.noises.now c.loop-j.j c.class_at-seen.result c.if-is_due.factor c.if-is_due.held =
     elim c.if-is_due.branch [
-      | then-is_due w ↦ new_serves a.rule a.t a.noises.now c.loop-j.j (get_or a.kin.now c.loop-j.j 0) c.class_at-seen.result same _ _ w.held-is (ap reply_of_factor3 w.factor-is ∙ w.factor_from-factor.ensures)
+      | then-is_due w ↦ new_serves a.rule a.t a.noises.now c.loop-j.j (get_or a.kin.now c.loop-j.j 0) c.class_at-seen.result same _ _ w.held-is (ap reply_of_factor w.factor-is ∙ w.factor_from-factor.ensures)
       | else-is_due w ↦ held_serves a.rule a.t a.noises.now c.loop-j.j (get_or a.kin.now c.loop-j.j 0) c.class_at-seen.result same _ _ _ _ w.held-is w.factor-is v.1 few (c.is_due.ensures w.if-is_due.false)
     ] in
     let long = sights_long a.positions.now a.noises.now a.labels.now a.labelled.now a.m in

@@ -10,7 +10,7 @@ returns-then-is_finite_vector-is_finite_velocity c =
     let velocity = rows.before.before in
     let position = velocity.before in
     let s = position.args in
-    c.validate_covariance3.ensures ∙ ap (validated 3) rows.rows.ensures
+    c.validate_covariance.ensures ∙ ap (validated 3) rows.rows3.ensures
     ∙ covariance_decides s.d (sym (λ i. position.is_finite_vector.ensures i && velocity.is_finite_velocity.ensures i) ∙ rows.if-is_finite_vector-is_finite_velocity.true)
 
 pub returns-else-is_finite_vector-is_finite_velocity : goal.returns-else-is_finite_vector-is_finite_velocity

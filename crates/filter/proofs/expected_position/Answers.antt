@@ -7,5 +7,5 @@ pub returns : goal.returns
 unfolding expected_of
 returns c =
     let own = c.before in
-    let p = c.flat-covariance.ensures ∙ ap (flat_of 3 3) own.position_spread.ensures in
+    let p = c.flat3-covariance.ensures ∙ ap (flat_of 3 3) own.position_spread.ensures in
     λ i. record { position = own.position-position.ensures i; covariance = p i }

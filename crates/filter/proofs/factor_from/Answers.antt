@@ -9,5 +9,5 @@ unfolding factor_from
 returns c =
     let own = c.before in
     let noise = own.before in
-    let s = own.symmetrized_sum.ensures ∙ (λ i. symmetrized 3 (plus 3 3 (noise.rows.ensures i) (noise.rows-2.ensures i))) in
-    c.cholesky3.ensures ∙ (λ i. cholesky 3 (s i))
+    let s = own.symmetrized_sum.ensures ∙ (λ i. symmetrized 3 (plus 3 3 (noise.rows3.ensures i) (noise.rows3-2.ensures i))) in
+    c.cholesky.ensures ∙ (λ i. cholesky 3 (s i))

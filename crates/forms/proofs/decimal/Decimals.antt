@@ -1,6 +1,6 @@
 -- What the number reader's proofs use.
 use Rattle.std.specs.Prelude.{Option}
-use Rattle.std.proofs.Common.{◌≡◌, refl, sym, ap, ◌∙◌, Bool, true, false, cond, List, [], ◌∷◌, ℕ, zero, suc, ◌+◌, ◌-◌, ◌*◌, ◌<◌, ◌≤◌, eqb, leb, add-one, arith, length, take, drop, get_or, length-drop, drop_of_length-le, drop-cons, ℤ, pos, negsuc, ◌-ℤ◌, to_z, of_z, w32, Option as Answer, Some, None}
+use Rattle.std.proofs.Common.{◌≡◌, refl, sym, ap, ◌∙◌, Bool, true, false, cond, List, [], ◌∷◌, ℕ, zero, suc, ◌+◌, ◌-◌, ◌*◌, ◌<◌, ◌≤◌, eqb, leb, add-one, arith, length, take, drop, get_or, length-drop, drop_of_length-le, drop-cons, ℤ, pos, negsuc, ◌-ℤ◌, to_z, of_z, w32, Option, Some, None}
 use mathlib.Core.Bool.{true≢false}
 use Rattle.std.proofs.lemmas.Bool.Decides.{nat_tests}
 use Rattle.std.proofs.lemmas.Int.{ints}
@@ -85,16 +85,16 @@ counted_small (b ∷ c ∷ l) n h = go (eqb b 48) h
     go false g = limited_small _ n g
 
 -- ---- a sign: what the count behind it, or of the whole word, makes
-abbrev pub negated : Answer ℕ → Reply (Bool × ℕ)
+abbrev pub negated : Option ℕ → Reply (Bool × ℕ)
 negated None = refused 13
 negated (Some zero) = refused 13
 negated (Some (suc n)) = given (true, suc n)
 
-abbrev pub plain : Answer ℕ → Reply (Bool × ℕ)
+abbrev pub plain : Option ℕ → Reply (Bool × ℕ)
 plain None = refused 13
 plain (Some n) = given (false, n)
 
-minus_of : (a : Answer ℕ) (o : Option ℕ) → reply_of_natural a ≡ natural_reply o → negated a ≡ decimal_reply (minus o)
+minus_of : (a : Option ℕ) (o : Option ℕ) → reply_of_natural a ≡ natural_reply o → negated a ≡ decimal_reply (minus o)
 unfolding minus
 minus_of None None h = refl
 minus_of None (Some n) h = cc
@@ -102,7 +102,7 @@ minus_of (Some k) None h = absurd (let z : ◌≡◌ {A = ℕ} 0 1 = cc in omega
 minus_of (Some zero) (Some n) h = let e : n ≡ zero = cc in rw e
 minus_of (Some (suc k)) (Some n) h = let e : n ≡ suc k = cc in rw e
 
-plus_of : (a : Answer ℕ) (o : Option ℕ) → reply_of_natural a ≡ natural_reply o → plain a ≡ decimal_reply (plus o)
+plus_of : (a : Option ℕ) (o : Option ℕ) → reply_of_natural a ≡ natural_reply o → plain a ≡ decimal_reply (plus o)
 unfolding plus
 plus_of None None h = refl
 plus_of None (Some n) h = cc
@@ -116,14 +116,14 @@ pub no_dash : (w : List ℕ) → length w < 1 → get_or w 0 0 ≡ 45 → ⊥
 no_dash [] h e = omega arith
 no_dash (b ∷ l) h e = omega arith
 
-pub signed : (w : List ℕ) (a : Answer ℕ) → 1 ≤ length w → get_or w 0 0 ≡ 45 → reply_of_natural a ≡ natural_reply (natural_of (take (length w - 1) (drop 1 w))) → negated a ≡ decimal_reply (decimal_of w)
+pub signed : (w : List ℕ) (a : Option ℕ) → 1 ≤ length w → get_or w 0 0 ≡ 45 → reply_of_natural a ≡ natural_reply (natural_of (take (length w - 1) (drop 1 w))) → negated a ≡ decimal_reply (decimal_of w)
 unfolding decimal_of
 signed [] a h e r = absurd (omega arith)
 signed (b ∷ l) a h e r =
     let q : reply_of_natural a ≡ natural_reply (natural_of l) = r ∙ ap (λ (m : List ℕ). natural_reply (natural_of m)) (whole (b ∷ l)) in
     rw (eq-eqb b 45 e) (minus_of a (natural_of l) q)
 
-pub unsigned : (w : List ℕ) (a : Answer ℕ) → (get_or w 0 0 ≡ 45 → ⊥) → reply_of_natural a ≡ natural_reply (natural_of w) → plain a ≡ decimal_reply (decimal_of w)
+pub unsigned : (w : List ℕ) (a : Option ℕ) → (get_or w 0 0 ≡ 45 → ⊥) → reply_of_natural a ≡ natural_reply (natural_of w) → plain a ≡ decimal_reply (decimal_of w)
 unfolding decimal_of natural_of plus
 unsigned [] a f r = plus_of a None r
 unsigned (b ∷ l) a f r = rw (ne_eqb b 45 f) (plus_of a (natural_of (b ∷ l)) r)

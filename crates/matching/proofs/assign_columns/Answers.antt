@@ -8,9 +8,9 @@ use Rattle.matching.proofs.assign_columns.Goals as goal
 
 pub returns-in-None : goal.returns-in-None
 returns-in-None c =
-    all_done c.args.window c.in-None.is c.args.gate c.args.time _ _ c.args.n c.args.m _ _ c.pair_all.ensures.0 c.pair_all.ensures.1
+    all_done c.args.window c.in-None.is c.args.gate c.args.time _ _ c.args.table.rows c.args.table.columns _ _ c.pair_all.ensures.0 c.pair_all.ensures.1
 
 pub returns-in-Some : goal.returns-in-Some
 returns-in-Some c =
     let f : SFits w64 c.in-Some.limit = search rules in
-    window_set c.args.window _ c.in-Some.is c.args.gate c.args.time _ _ c.args.m _ _ (rw (to_z-of_z c.ranges.time, to_z-of_z f) at c.assign_recent_first.ensures)
+    window_set c.args.window _ c.in-Some.is c.args.gate c.args.time _ _ c.args.table.columns _ _ (rw (to_z-of_z c.ranges.time, to_z-of_z f) at c.assign_recent_first.ensures)

@@ -1,4 +1,5 @@
 -- `matching::assign_recent_first` meets its contract: the flags are the front of the array that the cascade reads. Assumes nothing.
+use Rattle.std.proofs.lemmas.Result.{err_from_is_err_and}
 use mathlib.Core.Bool.{false}
 use mathlib.Core.List.{List}
 use mathlib.Core.Path.{◌≡◌, ap, ◌∙◌}
@@ -21,18 +22,20 @@ rows_long rows n e h = length-take-le n rows (omega arith)
 
 pub pair_cascade-requires : goal.pair_cascade-requires
 pair_cascade-requires c =
-    (c.requires.0, c.requires.1, c.requires.2, laid_long _ _ _ _ _ c.mark_recent.ensures, c.requires.3, sized _ c.requires.3)
+    (c.requires.0, laid_long _ _ _ _ _ c.mark_recent.ensures, c.requires.1, sized _ c.requires.1)
 
-pub returns-in-Ok : goal.returns-in-Ok
-returns-in-Ok c =
+pub returns : goal.returns
+returns c =
     let long : length c.args.rows ≡ 64 = search (rules, length_mapped) in
-    recent_done c.args.window c.args.time _ c.args.n (replicate 64 false) _ (rows_long c.args.rows c.args.n long c.requires.0) c.requires.0 c.mark_recent.result
+    recent_done c.args.window c.args.time _ c.args.table.rows (replicate 64 false) _ (rows_long c.args.rows c.args.table.rows long c.requires.0.0) c.requires.0.0 c.mark_recent.result
     (rw (to_z-of_z c.ranges.time, to_z-of_z c.ranges.window) at c.mark_recent.ensures)
-    c.args.gate _ c.args.m c.in-Ok.is _ _ _ c.pair_cascade.ensures
+    c.args.gate _ c.args.table.columns c.in_ok-mark_recent.was _ _ _ c.pair_cascade.ensures
 
-pub returns-in-Err : goal.returns-in-Err
-returns-in-Err c =
+pub returns-in_err-mark_recent : goal.returns-in_err-mark_recent
+returns-in_err-mark_recent c =
     let long : length c.args.rows ≡ 64 = search (rules, length_mapped) in
-    recent_stops c.args.window c.args.time _ c.args.n (replicate 64 false) _ (rows_long c.args.rows c.args.n long c.requires.0) c.requires.0 c.mark_recent.result
+    let q = err_from_is_err_and c.from_residual.result c.from_residual.ensures.1 in
+    rw (q.1, q.2)
+    (recent_stops c.args.window c.args.time _ c.args.table.rows (replicate 64 false) _ (rows_long c.args.rows c.args.table.rows long c.requires.0.0) c.requires.0.0 c.mark_recent.result
     (rw (to_z-of_z c.ranges.time, to_z-of_z c.ranges.window) at c.mark_recent.ensures)
-    c.args.gate _ c.args.m _ c.in-Err.is _ (sized _ c.requires.3)
+    c.args.gate _ c.args.table.columns _ c.in_err-mark_recent.was _ (sized _ c.requires.1))

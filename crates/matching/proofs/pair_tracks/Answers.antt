@@ -1,7 +1,9 @@
 -- `matching::pair_tracks` meets its contract: the table, the takers and what is told of them are those of the definitions. Assumes nothing.
+use Rattle.std.proofs.lemmas.Result.{err_from_is_err_and}
 use mathlib.Core.Path.{◌≡◌, sym, ap, ◌∙◌}
 use mathlib.Core.List.{List}
-use Prim.Native.Nat.{ℕ, ◌≤◌}
+use Prim.Native.Nat.{ℕ, ◌*◌, ◌≤◌, min}
+use lib.Seq.{length-take-le}
 use lib.Ieee.{Float}
 use lib.ListN.{length, take, replicate, length-map, length-take, length-replicate}
 use mir.Facts.{to_z-of_z}
@@ -14,41 +16,46 @@ use Rattle.matrix.specs.Matrix.{nought}
 use Rattle.pairing.specs.declared.Row.{Row}
 use Rattle.pairing.specs.Rows.{ids_of}
 use Rattle.pairing.proofs.Rows.{lay_read}
-use Rattle.cost_table.proofs.Tabling.{table_long}
-use Rattle.matching.proofs.Stage.{stage_unpriced, stage_unpaired, stage_told, by_counts}
+use Rattle.matching.proofs.Stage.{stage_unpriced, stage_unpaired, stage_told}
 use Rattle.matching.proofs.pair_tracks.Goals as goal
 
 fresh : length (replicate 4096 nought) ≡ 4096
 fresh = length-replicate {A = Float} 4096 nought
 
-pub slice_bounds-assign_front-end : goal.slice_bounds-assign_front-end
-slice_bounds-assign_front-end c = sym (table_long _ _ _ _ (replicate 4096 nought) _ c.price_table.ensures ∙ fresh)
+-- both counts are at most 64, so that the table is in front of the array
+module _ (rows wanted_rows columns wanted : ℕ) (costs : List Float) (en : rows ≡ min wanted_rows 64) (em : columns ≡ min wanted 64) (size : length costs ≡ 4096) where
+  few : rows ≤ 64
+  few = omega (arith, en)
 
-pub assign_front-requires : goal.assign_front-requires
-assign_front-requires c =
-    let few : c.taken-count.result ≤ 64 = omega (arith, c.taken-count.ensures) in
-    let wide : c.taken-columns.result ≤ 64 = omega (arith, c.taken-columns.ensures) in
-    (few, wide, omega (arith, table_long _ _ _ _ (replicate 4096 nought) _ c.price_table.ensures, fresh, mul-le-mul_right c.taken-columns.result few, wide), search rules)
+  wide : columns ≤ 64
+  wide = omega (arith, em)
 
-pub returns-in-Err : goal.returns-in-Err
-returns-in-Err c =
+  in_front : rows * columns ≤ length costs
+  in_front = omega (arith, wide, mul-le-mul_right columns few, size)
+
+  whole : (rows ≤ 64) × (columns ≤ 64) × (length (take (rows * columns) costs) ≡ rows * columns)
+  whole = (few, wide, length-take-le (rows * columns) costs in_front)
+
+pub slice_bounds-costs-end : goal.slice_bounds-costs-end
+slice_bounds-costs-end c = in_front _ _ _ _ c.price_table.new.costs c.taken-count.ensures c.taken-columns.ensures c.price_table.array_long
+
+pub assign_columns-requires : goal.assign_columns-requires
+assign_columns-requires c = (whole _ _ _ _ c.price_table.new.costs c.taken-count.ensures c.taken-columns.ensures c.price_table.array_long, search rules)
+
+pub returns-in_err-price_table : goal.returns-in_err-price_table
+returns-in_err-price_table c =
     let long : length c.args.rows ≡ 64 = search (rules, length_mapped) in
     let seen : length c.args.seen ≡ 64 = search (rules, length_mapped) in
-    let few : c.taken-count.result ≤ 64 = omega (arith, c.taken-count.ensures) in
-    let wide : c.taken-columns.result ≤ 64 = omega (arith, c.taken-columns.ensures) in
-    by_counts _ (c.args.window) c.args.time c.args.rows c.args.seen long seen c.args.n c.args.m _ _ c.taken-count.ensures c.taken-columns.ensures _
-    (stage_unpriced _ _ _ c.taken-count.result c.taken-columns.result long seen few wide (c.args.window) c.args.time (replicate 4096 nought) fresh
-    c.price_table.result _ c.price_table.ensures _ c.in-Err.is _ c.refuse.ensures)
+    let q = err_from_is_err_and c.from_residual.result c.from_residual.ensures.1 in
+    rw (q.1, q.2) (stage_unpriced c.args.rule c.args.rows c.args.seen c.args.n c.args.m _ _ long seen c.taken-count.ensures c.taken-columns.ensures c.args.window c.args.time (replicate 4096 nought) fresh c.price_table.result _ c.price_table.ensures _ c.in_err-price_table.was)
 
-pub returns-in-Err-assign_front : goal.returns-in-Err-assign_front
-returns-in-Err-assign_front c =
+pub returns-in_err-assign_columns : goal.returns-in_err-assign_columns
+returns-in_err-assign_columns c =
     let long : length c.args.rows ≡ 64 = search (rules, length_mapped) in
     let seen : length c.args.seen ≡ 64 = search (rules, length_mapped) in
-    let few : c.taken-count.result ≤ 64 = omega (arith, c.taken-count.ensures) in
-    let wide : c.taken-columns.result ≤ 64 = omega (arith, c.taken-columns.ensures) in
-    by_counts _ (c.args.window) c.args.time c.args.rows c.args.seen long seen c.args.n c.args.m _ _ c.taken-count.ensures c.taken-columns.ensures _
-    (stage_unpaired _ _ _ c.taken-count.result c.taken-columns.result long seen few wide (c.args.window) c.args.time (replicate 4096 nought) fresh
-    c.price_table.result _ c.price_table.ensures c.in-Ok.is _ c.assign_front.result (rw (to_z-of_z c.ranges.time) at c.assign_front.ensures) _ c.in-Err-assign_front.is _ c.refuse-in-Err-assign_front.ensures)
+    let q = err_from_is_err_and c.from_residual-in_err-assign_columns.result c.from_residual-in_err-assign_columns.ensures.1 in
+    rw (q.1, q.2)
+    (stage_unpaired c.args.rule c.args.rows c.args.seen c.args.n c.args.m _ _ long seen c.taken-count.ensures c.taken-columns.ensures c.args.window c.args.time (replicate 4096 nought) fresh c.price_table.result _ c.price_table.ensures c.in_ok-price_table.was _ c.assign_columns.result (rw (to_z-of_z c.ranges.time) at c.assign_columns.ensures) _ c.in_err-assign_columns.was)
 
 -- the numbers of the rows
 module _ (n : ℕ) (all : List Row) (ids : List ℕ) (long : length all ≡ 64) (is : ids ≡ lay (take n (ids_of all)) (replicate 64 0)) where
@@ -61,22 +68,15 @@ module _ (n : ℕ) (all : List Row) (ids : List ℕ) (long : length all ≡ 64) 
   ids_read : take n ids ≡ take n (ids_of all)
   ids_read = ap (take n) is ∙ lay_read n (ids_of all) (replicate 64 0) numbered
 
-pub returns-in-Ok-assign_front : goal.returns-in-Ok-assign_front
-returns-in-Ok-assign_front c =
+pub returns : goal.returns
+returns c =
     let long : length c.args.rows ≡ 64 = search (rules, length_mapped) in
     let seen : length c.args.seen ≡ 64 = search (rules, length_mapped) in
-    let few : c.taken-count.result ≤ 64 = omega (arith, c.taken-count.ensures) in
-    let wide : c.taken-columns.result ≤ 64 = omega (arith, c.taken-columns.ensures) in
-    by_counts _ (c.args.window) c.args.time c.args.rows c.args.seen long seen c.args.n c.args.m _ _ c.taken-count.ensures c.taken-columns.ensures _
-    (stage_told _ _ _ c.taken-count.result c.taken-columns.result long seen few wide (c.args.window) c.args.time (replicate 4096 nought) fresh
-    c.price_table.result _ c.price_table.ensures c.in-Ok.is _ c.assign_front.result (rw (to_z-of_z c.ranges.time) at c.assign_front.ensures) c.in-Ok-assign_front.is c.ids_of-ids.result (ids_read c.taken-count.result c.args.rows c.ids_of-ids.result long c.ids_of-ids.ensures) _ c.tell.ensures)
-
-pub ids_of-ids-requires : goal.ids_of-ids-requires
-ids_of-ids-requires c = omega (arith, c.taken-count.ensures)
+    stage_told c.args.rule c.args.rows c.args.seen c.args.n c.args.m _ _ long seen c.taken-count.ensures c.taken-columns.ensures c.args.window c.args.time (replicate 4096 nought) fresh c.price_table.result _ c.price_table.ensures
+    c.in_ok-price_table.was _ c.assign_columns.result (rw (to_z-of_z c.ranges.time) at c.assign_columns.ensures) c.in_ok-assign_columns.was c.ids_of-ids.result (ids_read c.taken-count.result c.args.rows c.ids_of-ids.result long c.ids_of-ids.ensures) _ c.tell.ensures
 
 pub tell-requires : goal.tell-requires
 tell-requires c =
     let long : length c.args.rows ≡ 64 = search (rules, length_mapped) in
-    let few : c.taken-count.result ≤ 64 = omega (arith, c.taken-count.ensures) in
-    let wide : c.taken-columns.result ≤ 64 = omega (arith, c.taken-columns.ensures) in
-    (few, wide, c.assign_front.ensures.long, ids_long c.taken-count.result c.args.rows c.ids_of-ids.result long c.ids_of-ids.ensures)
+    let w = whole _ _ _ _ c.price_table.new.costs c.taken-count.ensures c.taken-columns.ensures c.price_table.array_long in
+    (w.0, w.1, c.assign_columns.ensures.long, ids_long c.taken-count.result c.args.rows c.ids_of-ids.result long c.ids_of-ids.ensures)

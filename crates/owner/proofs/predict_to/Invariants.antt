@@ -1,7 +1,8 @@
 use mathlib.Core.Path.{◌≡◌}
-use Prim.Native.Nat.{◌≤◌, ◌-◌}
+use Prim.Native.Nat.{◌≤◌}
 use lib.ListN.{length}
-use Rattle.owner.proofs.Carrying.{Carrying}
+use Rattle.moving.proofs.Passing.{Passed}
+use Rattle.owner.proofs.Carrying.{keeps_pk, moves_pk}
 use Rattle.owner.proofs.Predicting.{with_pk_tracks}
 use Rattle.owner.proofs.predict_to.Given as goal
 
@@ -12,7 +13,4 @@ invariant-loop-i l =
     × (length l.t.tracks ≡ 64)
     × (l.n ≤ l.i)
     × (l.t ≡ with_pk_tracks l.initial.t l.t.tracks)
-    × Carrying l.life l.density l.time l.initial.t.tracks l.t.tracks l.i l.n l.all l.initial.code l.code
-
-abbrev pub decreases-loop-i : goal.decreases-loop-i
-decreases-loop-i l = l.all - l.i
+    × Passed (keeps_pk l.life l.density l.time) (moves_pk l.life l.density l.time (λ r. r)) l.initial.t.tracks l.t.tracks l.i l.n

@@ -1,21 +1,18 @@
+use Rattle.std.proofs.lemmas.Result.{err_from_is_err_and}
 use mir.Facts.{to_z-of_z}
 use Rattle.types.specs.Refusals.{number_of}
-use Rattle.calls.proofs.Answering.{refuses, carries_out}
-use Rattle.moving.specs.Steps.{TrackerAnswers, moved_tracks}
 use Rattle.stages.proofs.Moving.{move_refused, move_given, prepare_refused, prepare_given, marks_cleared}
 use Rattle.stages.proofs.prepare.Goals as goal
 
-pub returns-in-Err : goal.returns-in-Err
-returns-in-Err c =
+pub returns-in_err-moved : goal.returns-in_err-moved
+returns-in_err-moved c =
     let a = c.args in
-    let moves : TrackerAnswers c.with_counts.result c.move_tracks-step.result (moved_tracks c.with_counts.result a.time) = rw (to_z-of_z c.ranges.time) at c.move_tracks-step.ensures in
-    let why = c.in-Err.why in
-    refuses a.t why _
-    (prepare_refused a.t a.time (number_of why) (move_refused a.t a.time c.with_counts.result c.move_tracks-step.result c.with_counts.ensures moves why c.in-Err.is))
+    let q = err_from_is_err_and c.from_residual.result c.from_residual.ensures.1 in
+    let n = number_of c.in_err-moved.field-0.0 in
+    rw (q.1, q.2) (prepare_refused a.t a.time n (move_refused a.t a.time c.with_counts.result c.with_counts.ensures n (rw (to_z-of_z c.ranges.time) at c.in_err-moved.ensures)))
 
-pub returns-in-Ok : goal.returns-in-Ok
-returns-in-Ok c =
+pub returns : goal.returns
+returns c =
     let a = c.args in
-    let moves : TrackerAnswers c.with_counts.result c.move_tracks-step.result (moved_tracks c.with_counts.result a.time) = rw (to_z-of_z c.ranges.time) at c.move_tracks-step.ensures in
-    let g = move_given a.t a.time c.with_counts.result c.move_tracks-step.result c.with_counts.ensures moves c.in-Ok.is in
-    carries_out a.t _ _ _ (marks_cleared a.t a.time c.move_tracks-step.result.tracker c.clear_marks.result g.tracks g.whole c.clear_marks.ensures) (prepare_given a.t a.time g.tracks g.given_they)
+    let g = move_given a.t a.time c.with_counts.result c.with_counts.ensures c.in_ok-moved.moved (rw (to_z-of_z c.ranges.time) at c.in_ok-moved.ensures) in
+    prepare_given a.t a.time c.clear_marks.result g.tracks g.given_they (marks_cleared a.t a.time c.in_ok-moved.moved c.clear_marks.result g.tracks g.whole c.clear_marks.ensures)

@@ -5,12 +5,12 @@ use Rattle.tracker.proofs.Priors.{prior_not_finite, prior_nowhere, prior_somewhe
 use Rattle.tracker.proofs.set_class_prior.Goals as goal
 
 pub returns-then-not-is_finite : goal.returns-then-not-is_finite
-returns-then-not-is_finite c = let a = c.args in refuses a.t _ _ (prior_not_finite a.t a.id a.label a.confidence (sym c.is_finite.ensures ∙ c.if-not-is_finite.true))
+returns-then-not-is_finite c = let a = c.args in rw c.refused.ensures (refuses a.t _ _ (prior_not_finite a.t a.id a.label a.confidence (sym c.is_finite.ensures ∙ c.if-not-is_finite.true)))
 
 pub returns-in-None : goal.returns-in-None
 returns-in-None c =
     let a = c.args in
-    refuses a.t _ _ (prior_nowhere a.t a.id a.label a.confidence (sym c.is_finite.ensures ∙ c.if-not-is_finite.false) (sym c.find_track.ensures ∙ c.in-None.is))
+    rw c.refused-in-None.ensures (refuses a.t _ _ (prior_nowhere a.t a.id a.label a.confidence (sym c.is_finite.ensures ∙ c.if-not-is_finite.false) (sym c.find_track.ensures ∙ c.in-None.is)))
 
 pub returns-in-Some : goal.returns-in-Some
 returns-in-Some c =

@@ -1,16 +1,17 @@
-use Rattle.filter.proofs.Steps.{answers}
+use Rattle.std.proofs.lemmas.Result.{err_from_is_err_and}
+use mathlib.Core.Path.{◌∙◌}
+use Rattle.number.specs.Reply.{refused, given}
 use Rattle.calls.specs.Update.{moving_of}
-use Rattle.updating.proofs.Corrections.{refuses, position_done, position_refused}
+use Rattle.updating.proofs.Corrections.{by_position}
 use Rattle.updating.proofs.correct.Goals as goal
 
-pub returns-in-Ok : goal.returns-in-Ok
-returns-in-Ok c =
+pub returns-in_err-next : goal.returns-in_err-next
+returns-in_err-next c =
     let a = c.args in
-    answers c.correct_velocity.ensures
-    (position_done (moving_of (a.deviation) a.d.velocity) a.d a.f c.expected_position.result c.update_from-first.result c.expected_position.ensures c.update_from-first.ensures.is c.in-Ok.is)
+    let p = err_from_is_err_and c.from_residual.result c.from_residual.ensures.1 in
+    rw (p.1, p.2) (by_position (moving_of a.deviation a.d.velocity) a.d a.f c.expected_position.result (refused _) c.expected_position.ensures c.in_err-next.ensures)
 
-pub returns-in-Err : goal.returns-in-Err
-returns-in-Err c =
+pub returns : goal.returns
+returns c =
     let a = c.args in
-    refuses
-    (position_refused (moving_of (a.deviation) a.d.velocity) a.d a.f c.expected_position.result c.update_from-first.result c.expected_position.ensures c.update_from-first.ensures.is c.in-Err.why c.in-Err.is)
+    c.correct_velocity.ensures ∙ by_position (moving_of a.deviation a.d.velocity) a.d a.f c.expected_position.result (given c.in_ok-next.next) c.expected_position.ensures c.in_ok-next.ensures

@@ -9,4 +9,4 @@ pub returns-then-is_single : goal.returns-then-is_single
 returns-then-is_single c = let e = c.is_single.ensures in ap given c.lay_single.ensures ∙ single_is _ c.args.shape (sym e.0 ∙ c.if-is_single.true) e.1 e.2 e.3
 
 pub returns : goal.returns
-returns c = rw c.is_ok.ensures.value (run_is _ c.args.shape c.requires.0 c.requires.1 (length-take-le _ _ c.requires.2) _ _ c.solve.ensures.is)
+returns c = run_is _ c.args.shape c.requires.0 c.requires.1 (length-take-le _ _ c.requires.2) _ _ c.solve.ensures.is

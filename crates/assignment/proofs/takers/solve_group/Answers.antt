@@ -1,3 +1,4 @@
+use Rattle.std.proofs.lemmas.Result.{err_from_is_err_and}
 use native.Mathlib.Omega.{arith}
 use mathlib.Core.Path.{refl}
 use Rattle.assignment.proofs.Solving.{group_unborne, group_empty, group_fits, group_failed, group_solved}
@@ -22,12 +23,13 @@ solve_front-requires c =
     let f = group_fits _ _ _ _ _ _ _ _ _ _ _ q.rows_few q.columns_few c.requires.2.enough G c.count_named-c.ensures in
     (f.0, f.1, f.2, omega (arith, G.long, c.requires.2.some))
 
-pub returns-then-not-solve_front : goal.returns-then-not-solve_front
-returns-then-not-solve_front c =
-    let G = c.gather_in-r.ensures in (
+pub returns-in_err-solve_front : goal.returns-in_err-solve_front
+returns-in_err-solve_front c =
+    let G = c.gather_in-r.ensures in
+    let p = err_from_is_err_and c.from_residual.result c.from_residual.ensures.1 in (
       G.long,
       G.members_long,
-      group_failed _ _ _ _ _ _ _ _ c.requires.0 _ c.requires.1 c.if-row_names-g.false _ c.count_named-c.ensures c.if-c-eq0.false _ _ _ _ G _ c.requires.4 (rw c.if-not-solve_front.true at c.solve_front.ensures),
+      rw (p.1, p.2) (group_failed _ _ _ _ _ _ _ _ c.requires.0 _ c.requires.1 c.if-row_names-g.false _ c.count_named-c.ensures c.if-c-eq0.false _ _ _ _ G _ _ c.requires.4 c.in_err-solve_front.ensures),
     )
 
 pub take_columns-requires : goal.take_columns-requires
@@ -40,5 +42,5 @@ returns c =
     let G = c.gather_in-r.ensures in (
       G.long,
       G.members_long,
-      group_solved _ _ _ _ _ _ _ _ c.requires.0 _ c.requires.1 c.if-row_names-g.false _ c.count_named-c.ensures c.if-c-eq0.false _ _ _ _ G _ _ _ c.requires.4 (rw c.if-not-solve_front.false at c.solve_front.ensures) c.take_columns.ensures,
+      group_solved _ _ _ _ _ _ _ _ c.requires.0 _ c.requires.1 c.if-row_names-g.false _ c.count_named-c.ensures c.if-c-eq0.false _ _ _ _ G _ _ _ c.requires.4 c.in_ok-solve_front.ensures c.take_columns.ensures,
     )

@@ -1,3 +1,4 @@
+use Rattle.std.proofs.lemmas.Result.{err_from_is_err_and}
 use native.Mathlib.Omega.{arith}
 use mathlib.Core.Path.{◌≡◌, refl, ◌∙◌}
 use Rattle.assignment.proofs.Solving.{room_kept, going_first, going_next, going_stops, going_done}
@@ -9,14 +10,15 @@ loop-g-init c = (omega arith, refl, refl, going_first _ _ _ _ _ _ _ c.requires.2
 pub solve_group-requires : goal.solve_group-requires
 solve_group-requires c = (c.requires.0, c.loop-g-test.true, room_kept c.requires.1 c.loop-g.invariant.1, c.loop-g.invariant.2, c.loop-g.invariant.3.long)
 
-pub returns-then-not-solve_group : goal.returns-then-not-solve_group
-returns-then-not-solve_group c = let q = rw c.if-not-solve_group.true at c.solve_group.ensures.2 in going_stops _ _ _ _ _ _ _ _ _ _ c.loop-g-test.true c.loop-g.invariant.3 q
+pub returns-in_err-solve_group : goal.returns-in_err-solve_group
+returns-in_err-solve_group c =
+    let p = err_from_is_err_and c.from_residual.result c.from_residual.ensures.1 in
+    rw (p.1, p.2) (going_stops _ _ _ _ _ _ _ _ _ _ c.loop-g-test.true c.loop-g.invariant.3 _ c.in_err-solve_group.ensures.2)
 
 pub loop-g-preserved : goal.loop-g-preserved
 loop-g-preserved c =
-    let e = c.solve_group.ensures in
-    let q = rw c.if-not-solve_group.false at e.2 in
-    (omega (arith, c.loop-g-test.true), e.0 ∙ c.loop-g.invariant.1, e.1, going_next _ _ _ _ _ _ _ _ _ _ c.loop-g-test.true c.loop-g.invariant.3 q)
+    let e = c.in_ok-solve_group.ensures in
+    (omega (arith, c.loop-g-test.true), e.0 ∙ c.loop-g.invariant.1, e.1, going_next _ _ _ _ _ _ _ _ _ _ c.loop-g-test.true c.loop-g.invariant.3 e.2)
 
 pub returns : goal.returns
 returns c = let e : c.loop-g.g ≡ c.args.rows = omega (arith, c.loop-g-test.false, c.loop-g.invariant.0) in going_done _ _ _ _ _ _ _ _ (rw e at c.loop-g.invariant.3)

@@ -1,30 +1,38 @@
--- Four ends, each one law of Deciding: it waits, it begins a track, the track is refused, there is no place for a candidate.
+-- Four ends, each one law of Deciding: there is no place for a candidate, it waits, the track is refused, it begins a track.
+use Rattle.std.proofs.lemmas.Result.{err_from_is_err_and}
 use mir.Facts.{to_z-of_z}
+use Rattle.number.specs.Reply.{refused, given}
+use Rattle.types.specs.Refusals.{number_of}
 use Rattle.calls.specs.Births.{low_score, near_confirmed}
 use Rattle.spawning.specs.Ruling.{places_of}
-use Rattle.birth_stage.proofs.Deciding.{consider_waits, consider_full, consider_begun, consider_refused}
+use Rattle.birth_stage.proofs.Deciding.{consider_stops, consider_waits, consider_begins}
 use Rattle.birth_stage.proofs.one.consider.Goals as goal
 
-pub returns-in-Waits : goal.returns-in-Waits
-returns-in-Waits c =
+pub returns-in_err-seen : goal.returns-in_err-seen
+returns-in_err-seen c =
     let a = c.args in
-    consider_waits a.config a.sensor a.time (low_score a.config a.d) (near_confirmed a.config (places_of a.places) a.d) a.d a.k a.id a.c c.decide-seen.result (rw (to_z-of_z c.ranges.time) at c.decide-seen.ensures)
-    c.blank_track.result c.in-Waits.is c.blank_track.ensures
+    let p = err_from_is_err_and c.from_residual.result c.from_residual.ensures.1 in
+    rw (p.1, p.2)
+    (consider_stops a.config a.sensor a.time (low_score a.config a.d) (near_confirmed a.config (places_of a.places.now) a.d) a.d a.k a.id a.c.now (number_of c.in_err-seen.field-0.0) (rw (to_z-of_z c.ranges.time) at c.in_err-seen.ensures))
 
-pub returns-in-Ok : goal.returns-in-Ok
-returns-in-Ok c =
+pub returns-in-None : goal.returns-in-None
+returns-in-None c =
     let a = c.args in
-    consider_begun a.config a.sensor a.time (low_score a.config a.d) (near_confirmed a.config (places_of a.places) a.d) a.d a.k a.id a.c c.decide-seen.result (rw (to_z-of_z c.ranges.time) at c.decide-seen.ensures)
-    c.in-Begins.n c.begin_with.result c.try_spawn-step.result c.in-Begins.is (rw (to_z-of_z c.ranges.time) at c.begin_with.ensures) c.try_spawn-step.ensures c.in-Ok.is
+    consider_waits a.config a.sensor a.time (low_score a.config a.d) (near_confirmed a.config (places_of a.places.now) a.d) a.d a.k a.id a.c.now c.in_ok-seen.seen (rw (to_z-of_z c.ranges.time) at c.in_ok-seen.ensures) c.in-None.is
 
-pub returns-in-Err : goal.returns-in-Err
-returns-in-Err c =
+pub returns-in_err-track-in-Some : goal.returns-in_err-track-in-Some
+returns-in_err-track-in-Some c =
     let a = c.args in
-    consider_refused a.config a.sensor a.time (low_score a.config a.d) (near_confirmed a.config (places_of a.places) a.d) a.d a.k a.id a.c c.decide-seen.result (rw (to_z-of_z c.ranges.time) at c.decide-seen.ensures)
-    c.in-Begins.n c.begin_with.result c.try_spawn-step.result c.in-Begins.is (rw (to_z-of_z c.ranges.time) at c.begin_with.ensures) c.try_spawn-step.ensures c.in-Err.why c.in-Err.is
+    let t = to_z-of_z c.ranges.time in
+    let why = c.in_err-track-in-Some.field-0.0 in
+    let p = err_from_is_err_and c.from_residual-in_err-track-in-Some.result c.from_residual-in_err-track-in-Some.ensures.1 in
+    rw (p.1, p.2)
+    (consider_begins a.config a.sensor a.time (low_score a.config a.d) (near_confirmed a.config (places_of a.places.now) a.d) a.d a.k a.id a.c.now c.in_ok-seen.seen c.in-Some.sightings c.begin_with.result (refused (number_of why))
+    (rw t at c.in_ok-seen.ensures) c.in-Some.is (rw t at c.begin_with.ensures) c.in_err-track-in-Some.ensures)
 
-pub returns-in-Full : goal.returns-in-Full
-returns-in-Full c =
+pub returns-in_ok-track-in-Some : goal.returns-in_ok-track-in-Some
+returns-in_ok-track-in-Some c =
     let a = c.args in
-    consider_full a.config a.sensor a.time (low_score a.config a.d) (near_confirmed a.config (places_of a.places) a.d) a.d a.k a.id a.c c.decide-seen.result (rw (to_z-of_z c.ranges.time) at c.decide-seen.ensures)
-    c.blank_track-in-Full.result c.in-Full.is c.blank_track-in-Full.ensures
+    let t = to_z-of_z c.ranges.time in
+    consider_begins a.config a.sensor a.time (low_score a.config a.d) (near_confirmed a.config (places_of a.places.now) a.d) a.d a.k a.id a.c.now c.in_ok-seen.seen c.in-Some.sightings c.begin_with.result (given c.in_ok-track-in-Some.track)
+    (rw t at c.in_ok-seen.ensures) c.in-Some.is (rw t at c.begin_with.ensures) c.in_ok-track-in-Some.ensures

@@ -1,23 +1,18 @@
--- Four ends, each one law of Deciding: begun, the filter is refused, no number left, no place left.
-use Rattle.birth_stage.proofs.Deciding.{try_done, try_refused, try_no_place, try_no_number}
+-- Three ends, each one law of Deciding: there is room, no number is left, no place is left.
+use mathlib.Core.Path.{◌∙◌}
+use Rattle.birth_stage.proofs.Deciding.{try_room, try_no_place, try_no_number}
 use Rattle.birth_stage.proofs.one.try_spawn.Goals as goal
+use Rattle.birth_stage.proofs.one.try_spawn.Goals.{else-k-lt-MAX_TRACKS-via-then-k-lt-MAX_TRACKS+else-id-lt18446744073709551615, else-k-lt-MAX_TRACKS-via-else-k-lt-MAX_TRACKS}
 
-pub returns-in-Ok : goal.returns-in-Ok
-returns-in-Ok c =
+pub returns-then-id-lt18446744073709551615 : goal.returns-then-id-lt18446744073709551615
+returns-then-id-lt18446744073709551615 c =
     let a = c.args in
-    try_done a.d a.k a.id a.sightings a.b c.spawn-step.result c.if-k-lt64.true c.if-id-lt18446744073709551615.true c.spawn-step.ensures c.in-Ok.is
+    c.spawn.ensures ∙ try_room a.d a.k a.id a.sightings a.b c.if-k-lt-MAX_TRACKS.true c.if-id-lt18446744073709551615.true
 
-pub returns-in-Err : goal.returns-in-Err
-returns-in-Err c =
+pub returns-else-k-lt-MAX_TRACKS : goal.returns-else-k-lt-MAX_TRACKS
+returns-else-k-lt-MAX_TRACKS c =
     let a = c.args in
-    try_refused a.d a.k a.id a.sightings a.b c.spawn-step.result c.refuse.result c.in-Err.why c.if-k-lt64.true c.if-id-lt18446744073709551615.true c.spawn-step.ensures c.in-Err.is c.refuse.ensures
-
-pub returns-else-id-lt18446744073709551615 : goal.returns-else-id-lt18446744073709551615
-returns-else-id-lt18446744073709551615 c =
-    let a = c.args in
-    try_no_number a.d a.k a.id a.sightings a.b c.refuse-else-id-lt18446744073709551615.result c.refuse-else-id-lt18446744073709551615.ensures c.if-k-lt64.true c.if-id-lt18446744073709551615.false
-
-pub returns-else-k-lt64 : goal.returns-else-k-lt64
-returns-else-k-lt64 c =
-    let a = c.args in
-    try_no_place a.d a.k a.id a.sightings a.b c.refuse-else-k-lt64.result c.refuse-else-k-lt64.ensures c.if-k-lt64.false
+    elim c.else-k-lt-MAX_TRACKS.branch [
+      | else-k-lt-MAX_TRACKS-via-then-k-lt-MAX_TRACKS+else-id-lt18446744073709551615 w ↦ try_no_number a.d a.k a.id a.sightings a.b w.if-k-lt-MAX_TRACKS.true w.if-id-lt18446744073709551615.false
+      | else-k-lt-MAX_TRACKS-via-else-k-lt-MAX_TRACKS w ↦ try_no_place a.d a.k a.id a.sightings a.b w.if-k-lt-MAX_TRACKS.false
+    ]

@@ -1,19 +1,41 @@
-use mathlib.Core.Path.{refl}
+use Rattle.std.proofs.lemmas.Result.{err_from_is_err_and}
+use borrow.Author.Rules.{rules}
 use mir.Syntax.{w64}
 use mir.Val.{SFits}
 use mir.Facts.{to_z-of_z}
-use Rattle.settings.specs.Fields.{walk}
 use Rattle.settings.specs.Settings.{fields_of}
-use Rattle.settings.proofs.Walks.{step}
+use Rattle.settings.proofs.Firsts.{alone, good, bad}
 use Rattle.settings.proofs.check.births.Goals as goal
 
+pub returns-in_err-refuse_if : goal.returns-in_err-refuse_if
+unfolding fields_of
+returns-in_err-refuse_if c =
+    let p = err_from_is_err_and c.from_residual.result c.from_residual.ensures.1 in
+    rw (p.1, p.2)
+    (bad 10 c.length_is_bad.ensures _ c.in_err-refuse_if.ensures)
+
+pub returns-in_err-refuse_if-2 : goal.returns-in_err-refuse_if-2
+unfolding fields_of
+returns-in_err-refuse_if-2 c =
+    let p = err_from_is_err_and c.from_residual-in_err-refuse_if-2.result c.from_residual-in_err-refuse_if-2.ensures.1 in
+    rw (p.1, p.2)
+    (good 10 c.length_is_bad.ensures _ c.in_ok-refuse_if.ensures
+    (bad 11 c.persistence_is_bad.ensures _ c.in_err-refuse_if-2.ensures))
+
+pub returns-in_err-refuse_if-3 : goal.returns-in_err-refuse_if-3
+unfolding fields_of
+returns-in_err-refuse_if-3 c =
+    let p = err_from_is_err_and c.from_residual-in_err-refuse_if-3.result c.from_residual-in_err-refuse_if-3.ensures.1 in
+    rw (p.1, p.2)
+    (good 10 c.length_is_bad.ensures _ c.in_ok-refuse_if.ensures
+    (good 11 c.persistence_is_bad.ensures _ c.in_ok-refuse_if-2.ensures
+    (bad 12 c.not_positive.ensures _ c.in_err-refuse_if-3.ensures)))
+
 pub returns : goal.returns
-unfolding fields_of walk
+unfolding fields_of
 returns c =
-    let s = c.args.c in
-    -- the timeout is the thirteenth field
-    let t : SFits w64 s.birth_candidate_timeout_ns = record { sfits = c.struct_told-1.given.1.1.1.1.1.1.1.1.1.1.1.1.0.1 } in
-    let r10 = step 10 refl c.length_is_bad.ensures c.checked-v.ensures in
-    let r11 = step 11 r10 c.persistence_is_bad.ensures c.checked-v-2.ensures in
-    let r12 = step 12 r11 c.not_positive.ensures c.checked-v-3.ensures in
-    step 13 r12 (rw (to_z-of_z t) at c.not_positive_time.ensures) c.checked.ensures
+    let t : SFits w64 c.args.c.birth_candidate_timeout_ns = search rules in
+    good 10 c.length_is_bad.ensures _ c.in_ok-refuse_if.ensures
+    (good 11 c.persistence_is_bad.ensures _ c.in_ok-refuse_if-2.ensures
+    (good 12 c.not_positive.ensures _ c.in_ok-refuse_if-3.ensures
+    (alone 13 (rw (to_z-of_z t) at c.not_positive_time.ensures) c.refuse_if-4.ensures)))

@@ -1,15 +1,60 @@
+use Rattle.std.proofs.lemmas.Result.{err_from_is_err_and}
 use mathlib.Core.Path.{refl}
-use Rattle.settings.specs.Fields.{walk}
 use Rattle.settings.specs.Settings.{fields_of}
-use Rattle.settings.proofs.Walks.{step}
+use Rattle.settings.proofs.Firsts.{alone, good, bad}
 use Rattle.settings.proofs.check.numbers.Goals as goal
 
+pub returns-in_err-refuse_if : goal.returns-in_err-refuse_if
+unfolding fields_of
+returns-in_err-refuse_if c =
+    let p = err_from_is_err_and c.from_residual.result c.from_residual.ensures.1 in
+    rw (p.1, p.2)
+    (bad 4 refl _ c.in_err-refuse_if.ensures)
+
+pub returns-in_err-refuse_if-2 : goal.returns-in_err-refuse_if-2
+unfolding fields_of
+returns-in_err-refuse_if-2 c =
+    let p = err_from_is_err_and c.from_residual-in_err-refuse_if-2.result c.from_residual-in_err-refuse_if-2.ensures.1 in
+    rw (p.1, p.2)
+    (good 4 refl _ c.in_ok-refuse_if.ensures
+    (bad 5 c.threshold_is_bad.ensures _ c.in_err-refuse_if-2.ensures))
+
+pub returns-in_err-refuse_if-3 : goal.returns-in_err-refuse_if-3
+unfolding fields_of
+returns-in_err-refuse_if-3 c =
+    let p = err_from_is_err_and c.from_residual-in_err-refuse_if-3.result c.from_residual-in_err-refuse_if-3.ensures.1 in
+    rw (p.1, p.2)
+    (good 4 refl _ c.in_ok-refuse_if.ensures
+    (good 5 c.threshold_is_bad.ensures _ c.in_ok-refuse_if-2.ensures
+    (bad 6 c.negative.ensures _ c.in_err-refuse_if-3.ensures)))
+
+pub returns-in_err-refuse_if-4 : goal.returns-in_err-refuse_if-4
+unfolding fields_of
+returns-in_err-refuse_if-4 c =
+    let p = err_from_is_err_and c.from_residual-in_err-refuse_if-4.result c.from_residual-in_err-refuse_if-4.ensures.1 in
+    rw (p.1, p.2)
+    (good 4 refl _ c.in_ok-refuse_if.ensures
+    (good 5 c.threshold_is_bad.ensures _ c.in_ok-refuse_if-2.ensures
+    (good 6 c.negative.ensures _ c.in_ok-refuse_if-3.ensures
+    (bad 7 c.not_positive.ensures _ c.in_err-refuse_if-4.ensures))))
+
+pub returns-in_err-refuse_if-5 : goal.returns-in_err-refuse_if-5
+unfolding fields_of
+returns-in_err-refuse_if-5 c =
+    let p = err_from_is_err_and c.from_residual-in_err-refuse_if-5.result c.from_residual-in_err-refuse_if-5.ensures.1 in
+    rw (p.1, p.2)
+    (good 4 refl _ c.in_ok-refuse_if.ensures
+    (good 5 c.threshold_is_bad.ensures _ c.in_ok-refuse_if-2.ensures
+    (good 6 c.negative.ensures _ c.in_ok-refuse_if-3.ensures
+    (good 7 c.not_positive.ensures _ c.in_ok-refuse_if-4.ensures
+    (bad 8 c.not_positive-2.ensures _ c.in_err-refuse_if-5.ensures)))))
+
 pub returns : goal.returns
-unfolding fields_of walk
+unfolding fields_of
 returns c =
-    let r4 = step 4 refl refl c.checked-v.ensures in
-    let r5 = step 5 r4 c.threshold_is_bad.ensures c.checked-v-2.ensures in
-    let r6 = step 6 r5 c.negative.ensures c.checked-v-3.ensures in
-    let r7 = step 7 r6 c.not_positive.ensures c.checked-v-4.ensures in
-    let r8 = step 8 r7 c.not_positive-2.ensures c.checked-v-5.ensures in
-    step 9 r8 c.negative-2.ensures c.checked.ensures
+    good 4 refl _ c.in_ok-refuse_if.ensures
+    (good 5 c.threshold_is_bad.ensures _ c.in_ok-refuse_if-2.ensures
+    (good 6 c.negative.ensures _ c.in_ok-refuse_if-3.ensures
+    (good 7 c.not_positive.ensures _ c.in_ok-refuse_if-4.ensures
+    (good 8 c.not_positive-2.ensures _ c.in_ok-refuse_if-5.ensures
+    (alone 9 c.negative-2.ensures c.refuse_if-6.ensures)))))

@@ -1,13 +1,37 @@
+use Rattle.std.proofs.lemmas.Result.{err_from_is_err_and}
 use mathlib.Core.Path.{refl}
-use Rattle.settings.specs.Fields.{walk}
 use Rattle.settings.specs.Settings.{fields_of}
-use Rattle.settings.proofs.Walks.{step}
+use Rattle.settings.proofs.Firsts.{alone, good, bad}
 use Rattle.settings.proofs.check.rest.Goals as goal
 
+pub returns-in_err-refuse_if : goal.returns-in_err-refuse_if
+unfolding fields_of
+returns-in_err-refuse_if c =
+    let p = err_from_is_err_and c.from_residual.result c.from_residual.ensures.1 in
+    rw (p.1, p.2)
+    (bad 14 c.length_is_bad.ensures _ c.in_err-refuse_if.ensures)
+
+pub returns-in_err-refuse_if-2 : goal.returns-in_err-refuse_if-2
+unfolding fields_of
+returns-in_err-refuse_if-2 c =
+    let p = err_from_is_err_and c.from_residual-in_err-refuse_if-2.result c.from_residual-in_err-refuse_if-2.ensures.1 in
+    rw (p.1, p.2)
+    (good 14 c.length_is_bad.ensures _ c.in_ok-refuse_if.ensures
+    (bad 15 c.window_is_bad.ensures _ c.in_err-refuse_if-2.ensures))
+
+pub returns-in_err-refuse_if-3 : goal.returns-in_err-refuse_if-3
+unfolding fields_of
+returns-in_err-refuse_if-3 c =
+    let p = err_from_is_err_and c.from_residual-in_err-refuse_if-3.result c.from_residual-in_err-refuse_if-3.ensures.1 in
+    rw (p.1, p.2)
+    (good 14 c.length_is_bad.ensures _ c.in_ok-refuse_if.ensures
+    (good 15 c.window_is_bad.ensures _ c.in_ok-refuse_if-2.ensures
+    (bad 16 c.too_long.ensures _ c.in_err-refuse_if-3.ensures)))
+
 pub returns : goal.returns
-unfolding fields_of walk
+unfolding fields_of
 returns c =
-    let r14 = step 14 refl c.length_is_bad.ensures c.checked-v.ensures in
-    let r15 = step 15 r14 c.window_is_bad.ensures c.checked-v-2.ensures in
-    let r16 = step 16 r15 c.too_long.ensures c.checked-v-3.ensures in
-    step 17 r16 refl c.checked.ensures
+    good 14 c.length_is_bad.ensures _ c.in_ok-refuse_if.ensures
+    (good 15 c.window_is_bad.ensures _ c.in_ok-refuse_if-2.ensures
+    (good 16 c.too_long.ensures _ c.in_ok-refuse_if-3.ensures
+    (alone 17 refl c.refuse_if-4.ensures)))

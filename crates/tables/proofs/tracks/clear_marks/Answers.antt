@@ -1,7 +1,6 @@
 use mathlib.Core.Path.{refl, ap, ◌∙◌}
 use mathlib.Core.Bool.{false}
 use mathlib.Core.List.{map}
-use Prim.Native.Nat.{◌-◌}
 use lib.ListN.{get_or, set}
 use native.Mathlib.Omega.{arith}
 use borrow.Author.Rules.{rules}

@@ -1,8 +1,0 @@
-use mathlib.Core.Path.{ap, ◌∙◌}
-use Rattle.number.specs.Reply.{and_then}
-use Rattle.math.specs.Linalg.{distance_by, squared_distance}
-use Rattle.math.proofs.linalg.squared_mahalanobis3.Goals as goal
-
-pub returns : goal.returns
-unfolding squared_distance
-returns c = c.distance_by_factor3.ensures ∙ ap (λ f. and_then f (λ l. distance_by 3 l c.args.u)) c.cholesky3.ensures
