@@ -1,4 +1,5 @@
 // A text that grows: bytes, and how many of them are put.
+// Seen by this crate alone: the writers of an answer have room for what they put, and the methods ask for it.
 ghost use Rattle.std.specs.Prelude.{◌≡◌, ◌+◌, ◌%◌, ◌≤◌, length, take};
 ghost use Rattle.assignment.specs.Listing.{pair_of};
 ghost use Rattle.text.specs.Text.{Puts, Wrote, written, digits_of, item_text, pair_text};
