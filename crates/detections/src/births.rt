@@ -6,10 +6,7 @@ ghost use Rattle.detections.specs.Births.{score_below, distance_of, nearer};
 pub fn is_score_below(score: Option<f64>, threshold: f64) -> bool
     ensures { result ≡ score_below score threshold }
 {
-    match score {
-        None => false,
-        Some(x) => x < threshold,
-    }
+    score.is_some_and(|x| x < threshold)
 }
 
 // The distance between two places; a NaN where an offset between them is one, which is never so for finite places.
@@ -17,10 +14,7 @@ pub fn distance(a: [f64; 3], b: [f64; 3]) -> f64
     ensures { result ≡ distance_of a b }
 {
     let u = sums::minus(a, b);
-    match square_root::root(product::dot(u, u)) {
-        Some(x) => x,
-        None => 0.0 / 0.0,
-    }
+    square_root::root(product::dot(u, u)).unwrap_or(f64::NAN)
 }
 
 // Whether two places are strictly nearer to each other than the radius.

@@ -29,21 +29,16 @@ pub struct Detection {
 fn is_finite_velocity(v: Option<PlanarVelocity>) -> bool
     ensures { result ≡ finite_velocity v }
 {
-    match v {
-        None => true,
-        Some(v) => number::float::is_finite(v.x) & number::float::is_finite(v.y),
-    }
+    v.is_none_or(|v| number::float::is_finite(v.x) & number::float::is_finite(v.y))
 }
 
 // Whether a batch may hold the detection, or why not.
+#[tactic(auto, unfolding(crate::specs::Detection::detection_reply))]
 pub fn validate_detection(d: Detection) -> Result<(), math::linalg::Refusal>
     ensures { reply_of_validity result ≡ detection_reply d }
 {
-    let position = d.position;
-    let covariance = d.covariance;
-    let velocity = d.velocity;
-    if finite::is_finite_vector(position) & is_finite_velocity(velocity) {
-        math::linalg::validate_covariance(flat::rows3(covariance))
+    if finite::is_finite_vector(d.position) & is_finite_velocity(d.velocity) {
+        math::linalg::validate_covariance(flat::rows3(d.covariance))
     } else {
         Err(math::linalg::Refusal::NonFiniteValue)
     }

@@ -49,12 +49,9 @@ pub enum Ruling {
 pub fn classes_compatible(a: Option<u32>, b: Option<u32>) -> bool
     ensures { result ≡ compatible a b }
 {
-    match a {
-        None => true,
-        Some(x) => match b {
-            None => true,
-            Some(y) => x == y,
-        },
+    match (a, b) {
+        (Some(x), Some(y)) => x == y,
+        _ => true,
     }
 }
 
@@ -62,18 +59,9 @@ pub fn classes_compatible(a: Option<u32>, b: Option<u32>) -> bool
 fn penalize(cost: f64, prior: Option<ClassPrior>, seen: Option<u32>, penalty: f64) -> f64
     ensures { result ≡ penalized penalty prior seen cost }
 {
-    match prior {
-        None => cost,
-        Some(believed) => match seen {
-            None => cost,
-            Some(x) => {
-                if believed.label == x {
-                    cost
-                } else {
-                    cost + penalty * believed.confidence
-                }
-            }
-        },
+    match (prior, seen) {
+        (Some(believed), Some(x)) if believed.label != x => cost + penalty * believed.confidence,
+        _ => cost,
     }
 }
 
