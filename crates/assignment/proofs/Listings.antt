@@ -1,20 +1,21 @@
 -- One row or column more of the lists.
-use Rattle.std.specs.Prelude.{None, Option, Some}
+use Rattle.std.specs.Prelude.{None, Option, Some, position, ◌==◌}
+use Rattle.std.specs.List.{position_from}
+use Rattle.std.proofs.lemmas.Iterator.Adapters.{position_from-zero}
 use mathlib.Core.Path.{◌≡◌, refl, sym, ap, ap₂, ◌∙◌}
 use mathlib.Core.Bool.{Bool, cond}
 use mathlib.Core.List.{List, [], ◌∷◌, ◌++◌, map, append-nil}
 use Prim.Native.Nat.{ℕ, suc, ◌+◌, ◌-◌, ◌≤◌, ◌<◌}
 use native.Mathlib.Numerals.{add-one}
 use native.Mathlib.Omega.{arith}
-use borrow.Author.Tests.{lt-ltb, le-ltb, eq-eqb, ne_eqb}
-use lib.Dec.{eqb}
+use borrow.Author.Tests.{lt-ltb, le-ltb}
 use lib.ListN.{get_or, set, length, take, drop, replicate, length-append, length-map}
 use lib.Seq.{set-append_seam, append_snoc, drop-cons, drop-length, get_or-take, length-take-le, take-append_seam}
 use Rattle.kuhn_munkres.specs.Assignment.{Pair, column_of, pair_at, free_at, pairs_from, free_rows, free_columns}
 use Rattle.kuhn_munkres.proofs.Labels.{map_at}
 use Rattle.assignment.specs.Labelling.{row_or}
 use Rattle.assignment.specs.Taking.{takers_of}
-use Rattle.assignment.specs.Listing.{padded, row_of, column_in, pair_of, ColumnFound, RowsListed, ColumnsListed}
+use Rattle.assignment.specs.Listing.{padded, row_of, column_in, pair_of, RowsListed, ColumnsListed}
 use Rattle.assignment.proofs.Groupings.{label_bears}
 
 -- ---- one more in front of the zeros
@@ -33,6 +34,17 @@ map_snoc : {A B : Type 0} (f : A → B) (l : List A) (x : A) → map f (l ++ (x 
 map_snoc f [] x = refl
 map_snoc f (y ∷ l) x = ap (λ (t : List _). f y ∷ t) (map_snoc f l x)
 
+-- ---- the column of a row
+found_from : (i k : ℕ) → i < 64 → (l : List ℕ) → column_of i k (map row_or l) ≡ position_from (λ (x : ℕ). x == i) k l
+unfolding column_of
+found_from i k h [] = refl
+found_from i k h (x ∷ l) =
+    ap₂ (λ (b : Bool) (o : Option ℕ). cond b (Some k) o) (label_bears i x h)
+    (found_from i (suc k) h l ∙ ap (λ (j : ℕ). position_from (λ (y : ℕ). y == i) j l) (sym (add-one k)))
+
+pub found : (i : ℕ) → i < 64 → (l : List ℕ) → column_of i 0 (map row_or l) ≡ position (λ (x : ℕ). x == i) l
+found i h l = found_from i 0 h l ∙ sym (position_from-zero (λ (x : ℕ). x == i) l)
+
 -- ---- the columns as they stand
 module _ (m : ℕ) (takers : List ℕ) (hm : m ≤ 64) (long : m ≤ length takers) where
   abbrev T : List (Option ℕ)
@@ -48,22 +60,6 @@ module _ (m : ℕ) (takers : List ℕ) (hm : m ≤ 64) (long : m ≤ length take
 
   T-end : drop m T ≡ []
   T-end = ap (λ (k : ℕ). drop k T) (sym T-long) ∙ drop-length T
-
-  -- ---- the column of a row
-  module _ (i : ℕ) (hi : i < 64) where
-    step : (j : ℕ) → j < m → column_of i j (drop j T) ≡ cond (eqb (get_or takers j 0) i) (Some j) (column_of i (j + 1) (drop (j + 1) T))
-    unfolding column_of
-    step j h = ap (column_of i j) (T-at j h) ∙ ap₂ (λ (b : Bool) (k : ℕ). cond b (Some j) (column_of i k (drop (j + 1) T))) (label_bears i (get_or takers j 0) hi) (sym (add-one j))
-
-    pub column_here : (j : ℕ) → j < m → column_of i j (drop j T) ≡ column_of i 0 T → get_or takers j 0 ≡ i → ColumnFound T m i j
-    column_here j h q e = record { within = omega arith; is = sym q ∙ step j h ∙ rw (eq-eqb (get_or takers j 0) i e, lt-ltb j m h) }
-
-    pub column_next : (j : ℕ) → j < m → column_of i j (drop j T) ≡ column_of i 0 T → (get_or takers j 0 ≡ i → ⊥) → column_of i (j + 1) (drop (j + 1) T) ≡ column_of i 0 T
-    column_next j h q n = sym (step j h ∙ ap (λ (b : Bool). cond b (Some j) (column_of i (j + 1) (drop (j + 1) T))) (ne_eqb (get_or takers j 0) i n)) ∙ q
-
-    pub column_none : column_of i m (drop m T) ≡ column_of i 0 T → ColumnFound T m i m
-    unfolding column_of
-    column_none q = record { within = omega arith; is = sym q ∙ ap (column_of i m) T-end ∙ rw (le-ltb m m (omega arith)) }
 
   -- ---- the columns that are left
   pub record Freeing (j : ℕ) (free : List ℕ) (k : ℕ) : Type 0 where
@@ -111,7 +107,7 @@ module _ (m : ℕ) (takers : List ℕ) (hm : m ≤ 64) (long : m ≤ length take
       record { free_are = f.free_is ∙ ap padded e; count_is = f.count ∙ ap length e }
 
 -- ---- the rows
-module _ (T : List (Option ℕ)) (n m : ℕ) where
+module _ (T : List (Option ℕ)) (n : ℕ) where
   pub record Listing (i : ℕ) (pairRows pairColumns free : List ℕ) (k left : ℕ) : Type 0 where
     pub p : List Pair
     pub l : List ℕ
@@ -142,10 +138,9 @@ module _ (T : List (Option ℕ)) (n m : ℕ) where
     unfolding free_rows
     free_next = ap (free_rows T i) fuel ∙ ap (λ (x : ℕ). free_at i (column_of i 0 T) (free_rows T x (n - (i + 1)))) (sym (add-one i))
 
-    pub listing_pair : (j : ℕ) → ColumnFound T m i j → j < m → Listing (i + 1) (set a k i) (set b k j) c (k + 1) left
+    pub listing_pair : (j : ℕ) → column_of i 0 T ≡ Some j → Listing (i + 1) (set a k i) (set b k j) c (k + 1) left
     unfolding pair_at free_at
-    listing_pair j f q =
-        let e : column_of i 0 T ≡ Some j = f.is ∙ ap (λ (x : Bool). cond x (Some j) None) (lt-ltb j m q) in
+    listing_pair j e =
         let x = pair_of i j in
         let pn : pairs_from T i (n - i) ≡ x ∷ pairs_from T (i + 1) (n - (i + 1)) = pairs_next ∙ ap (λ (o : Option ℕ). pair_at i o (pairs_from T (i + 1) (n - (i + 1)))) e in
         let fn : free_rows T i (n - i) ≡ free_rows T (i + 1) (n - (i + 1)) = free_next ∙ ap (λ (o : Option ℕ). free_at i o (free_rows T (i + 1) (n - (i + 1)))) e in
@@ -164,10 +159,9 @@ module _ (T : List (Option ℕ)) (n m : ℕ) where
           all = rw (length-append t.p (x ∷ [])) (omega arith);
         }
 
-    pub listing_free : (j : ℕ) → ColumnFound T m i j → m ≤ j → Listing (i + 1) a b (set c left i) k (left + 1)
+    pub listing_free : column_of i 0 T ≡ None → Listing (i + 1) a b (set c left i) k (left + 1)
     unfolding pair_at free_at
-    listing_free j f q =
-        let e : column_of i 0 T ≡ None = f.is ∙ ap (λ (x : Bool). cond x (Some j) None) (le-ltb j m q) in
+    listing_free e =
         let pn : pairs_from T i (n - i) ≡ pairs_from T (i + 1) (n - (i + 1)) = pairs_next ∙ ap (λ (o : Option ℕ). pair_at i o (pairs_from T (i + 1) (n - (i + 1)))) e in
         let fn : free_rows T i (n - i) ≡ i ∷ free_rows T (i + 1) (n - (i + 1)) = free_next ∙ ap (λ (o : Option ℕ). free_at i o (free_rows T (i + 1) (n - (i + 1)))) e in
         let all = t.all in

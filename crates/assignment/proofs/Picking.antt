@@ -7,13 +7,16 @@ use native.Mathlib.Numerals.{add-one}
 use native.Mathlib.Nat.{suc-mul, zero-mul, mul-le-mul_right, mul-le-mul_left}
 use native.Mathlib.Omega.{arith}
 use lib.ListN.{get_or, set, length, take, drop, length-append, length-set}
-use lib.Seq.{take-suc-set, drop-cons, drop-length}
+use lib.Seq.{take-suc-set, drop-cons, drop-length, get_or-take, length-take-le}
+use lib.Dec.{eqb}
 use lib.Ieee.{Float, nan}
+use Rattle.std.specs.Prelude.{count_by, ◌==◌}
+use Rattle.std.proofs.lemmas.List.Sums.{sum_by-cons}
 use lib.Ieee.Scale.{finite}
 use Rattle.number.specs.Float.{larger_of}
 use Rattle.kuhn_munkres.specs.Assignment.{in_one, largest}
 use Rattle.groups.specs.Picks.{picked, ticks}
-use Rattle.groups.proofs.Picking.{picked_on, picked_off, picked_long, ticks_on, ticks_off, ticks_le}
+use Rattle.groups.proofs.Picking.{picked_on, picked_off, picked_long, ticks_on, ticks_off, ticks_le, ticks_same, ticks_shift}
 use Rattle.assignment.specs.Picks.{bears, Laid, group_row, group_table, GatheredIn}
 
 -- ---- laying
@@ -47,6 +50,23 @@ largest_take m l k h e = sym (largest_step m l k h ∙ ap (λ (b : Bool). larges
 pub largest_done : (m : Float) (l : List Float) (k : ℕ) → k ≡ length l → largest m (drop k l) ≡ m
 unfolding largest
 largest_done m l k e = ap (λ (i : ℕ). largest m (drop i l)) e ∙ ap (largest m) (drop-length l)
+
+-- ---- names in front, and their count
+pub bears_front : (m : ℕ) (names : List ℕ) (g j : ℕ) → j < m → bears (take m names) g j ≡ bears names g j
+bears_front m names g j h = ap (λ (x : ℕ). eqb x g) (get_or-take m names j 0 h)
+
+pub ticks_front : (m : ℕ) (names : List ℕ) (g : ℕ) → m ≤ length names → ticks (bears (take m names) g) (length (take m names)) ≡ ticks (bears names g) m
+ticks_front m names g h =
+    ap (ticks (bears (take m names) g)) (length-take-le m names h)
+    ∙ ticks_same (bears (take m names) g) (bears names g) m (λ j l. bears_front m names g j l)
+
+pub counted : (names : List ℕ) (g : ℕ) → count_by (λ (x : ℕ). x == g) names ≡ ticks (bears names g) (length names)
+unfolding ticks
+counted [] g = refl
+counted (x ∷ l) g =
+    sum_by-cons (λ (y : ℕ). cond (y == g) 1 0) x l
+    ∙ ap (λ (n : ℕ). cond (x == g) 1 0 + n) (counted l g)
+    ∙ sym (ticks_shift (bears (x ∷ l) g) (length l))
 
 -- ---- gathering
 pub laid_join : {A : Type 0} (size : ℕ) (a b c : List A) (j k r : ℕ) (p q : List A) → Laid size a b j k p → Laid size b c k r q → Laid size a c j r (p ++ q)
@@ -101,3 +121,6 @@ module _ (size : ℕ) (costs : List Float) (n m : ℕ) (rowNames columnNames : L
 
   pub gathered : (own : List Float) (members : List ℕ) (k r : ℕ) → Gathering size costs n m rowNames columnNames g n own₀ own members₀ members k r → GatheredIn size costs n m rowNames columnNames g own members r
   gathered own members k r t = record { long = t.table.long; members_long = t.rows.long; count = t.count; table = rw (← t.full) t.table.is; members_are = t.rows.is }
+
+pub gathered_few : (size : ℕ) (costs : List Float) (n m : ℕ) (rowNames columnNames : List ℕ) (g : ℕ) (own : List Float) (members : List ℕ) (r : ℕ) → GatheredIn size costs n m rowNames columnNames g own members r → r ≤ n
+gathered_few size costs n m rowNames columnNames g own members r G = rw G.count (ticks_le (bears rowNames g) n)

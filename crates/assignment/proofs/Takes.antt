@@ -1,25 +1,28 @@
--- One column more that takes its row.
+-- One column more that takes its row, and columns that stand in the front of an array.
 use mathlib.Core.Path.{◌≡◌, refl, sym, ap, ◌∙◌, subst}
 use mathlib.Core.Bool.{Bool, true, false, cond}
 use mathlib.Core.List.{List}
-use Prim.Native.Nat.{ℕ, zero, suc, ◌+◌, ◌-◌, ◌≤◌, ◌<◌}
-use native.Mathlib.Decide.{ℕ_discrete}
+use Prim.Native.Nat.{ℕ, zero, suc, ◌+◌, ◌≤◌, ◌<◌}
+use native.Mathlib.Decide.{ℕ_discrete, dec_lt}
 use native.Mathlib.Omega.{arith}
-use borrow.Author.Tests.{lt-ltb, le-ltb}
-use lib.ListN.{get_or, set, length, length-set}
-use lib.Seq.{get_or-set_same, get_or-set_other}
+use borrow.Author.Tests.{le-ltb}
+use lib.Dec.{ltb}
+use lib.ListN.{get_or, set, length, take, length-set}
+use lib.Seq.{get_or-set_same, get_or-set_other, get_or-take, length-take-le}
 use Rattle.groups.specs.Picks.{ticks}
-use Rattle.groups.proofs.Picking.{ticks_on, ticks_off}
+use Rattle.groups.proofs.Picking.{ticks_on, ticks_off, ticks_same}
 use Rattle.assignment.specs.Picks.{bears}
+use Rattle.assignment.proofs.Picking.{bears_front}
 use Rattle.assignment.specs.Taking.{taker_number, Taken}
 
-pub taker_in_lem : (members : List ℕ) (r t : ℕ) → (t ≡ 0 → ⊥) → t - 1 < r → get_or members (t - 1) 0 ≡ taker_number members r t
-taker_in_lem members r zero n h = absurd (n refl)
-taker_in_lem members r (suc i) n h = let e : suc i - 1 ≡ i = omega arith in rw (e, lt-ltb i r (omega arith))
-
-pub taker_out : (members : List ℕ) (r t : ℕ) → (t ≡ 0 → ⊥) → r ≤ t - 1 → 64 ≡ taker_number members r t
-taker_out members r zero n h = absurd (n refl)
-taker_out members r (suc i) n h = rw (le-ltb i r (omega arith))
+-- the first r members give what the whole array gives
+taker_front : (members : List ℕ) (r : ℕ) → r ≤ length members → (t : ℕ) → taker_number (take r members) (length (take r members)) t ≡ taker_number members r t
+taker_front members r h zero = refl
+taker_front members r h (suc i) = ap (λ (n : ℕ). cond (ltb i n) (get_or (take r members) i 0) 64) (length-take-le r members h) ∙ go (dec_lt i r)
+  where
+    go : Dec (i < r) → cond (ltb i r) (get_or (take r members) i 0) 64 ≡ cond (ltb i r) (get_or members i 0) 64
+    go (yes l) = ap (λ (x : ℕ). cond (ltb i r) x 64) (get_or-take r members i 0 l)
+    go (no n) = rw (le-ltb i r (omega arith))
 
 module _ (names : List ℕ) (g : ℕ) (p : List ℕ) (r : ℕ) (members before : List ℕ) where
   abbrev given : ℕ → ℕ
@@ -67,3 +70,16 @@ module _ (names : List ℕ) (g : ℕ) (p : List ℕ) (r : ℕ) (members before :
 
   pub taken : (m k : ℕ) (after : List ℕ) → Taking m k after → Taken names g m p r members before after
   taken m k after t = record { long = t.long; at = t.done }
+
+-- the same of the whole arrays, where the names and the members are their front
+pub taken_front : (names : List ℕ) (g m : ℕ) (p : List ℕ) (r : ℕ) (members before after : List ℕ) → m ≤ length names → r ≤ length members
+    → Taken (take m names) g (length (take m names)) p (length (take r members)) (take r members) before after → Taken names g m p r members before after
+taken_front names g m p r members before after hm hr t =
+    record {
+      long = t.long;
+      at =
+          λ j l.
+          t.at j (rw (length-take-le m names hm) l)
+          ∙ rw (bears_front m names g j l, ticks_same (bears (take m names) g) (bears names g) j (λ i h. bears_front m names g i (omega arith)))
+          (ap (λ (x : ℕ). cond (bears names g j) x (get_or before j 0)) (taker_front members r hr (get_or p (ticks (bears names g) j + 1) 0)));
+    }

@@ -1,8 +1,8 @@
 -- The answer's arrays: each list in front, zeros after it.
-use Rattle.std.specs.Prelude.{◌≡◌, cond, List, [], ◌∷◌, ◌++◌, map, ℕ, suc, ◌+◌, ◌-◌, ◌≤◌, length, take, replicate, eqb, ltb, Float, Result, Ok, Err, IfOk, None, Option, Some}
+use Rattle.std.specs.Prelude.{◌≡◌, cond, List, [], ◌∷◌, ◌++◌, map, ℕ, suc, ◌+◌, ◌-◌, ◌≤◌, length, take, replicate, eqb, ltb, Float, Result, Ok, Err, IfOk, Option}
 use Rattle.number.specs.Reply.{Reply, refused, given}
 use Rattle.lists.specs.Masks.{zipped}
-use Rattle.kuhn_munkres.specs.Assignment.{Pair, Pairs, column_of, pairs_from, free_rows, free_columns, assignment_reply}
+use Rattle.kuhn_munkres.specs.Assignment.{Pair, Pairs, pairs_from, free_rows, free_columns, assignment_reply}
 use Rattle.least.specs.Least.{LeastOnWholes}
 use Rattle.assignment.specs.Replies.{number_of}
 use Rattle.assignment.specs.declared.Assignment.{Assignment}
@@ -75,11 +75,6 @@ pub record AssignmentAnswer (costs : List Float) (n m : ℕ) (rowCost columnCost
   pub whole : IfOk r (λ a. a ≡ assignment_for (assignment_reply costs n m rowCost columnCost))
   pub once : IfOk r (λ a. Once n m (pairs_in a))
   pub least : LeastOnWholes costs n m rowCost columnCost (pairs_reply r)
-
--- the column that row i takes is the r-th of m, or none where r is m
-pub record ColumnFound (takers : List (Option ℕ)) (m i r : ℕ) : Type 0 where
-  pub within : r ≤ m
-  pub is : column_of i 0 takers ≡ cond (ltb r m) (Some r) None
 
 -- the pairs and the rows that are left, of n rows
 pub record RowsListed (takers : List (Option ℕ)) (n : ℕ) (pairRows pairColumns free : List ℕ) (count : ℕ) : Type 0 where

@@ -32,11 +32,7 @@ pub fn join_row(
 pub fn stand_alone() -> [usize; 128]
     ensures { Alone result }
 {
-    let mut parent = [0usize; 128];
-    for x in 0..128usize {
-        parent[x] = x;
-    }
-    parent
+    std::array::from_fn(|x| x)
 }
 
 // Joins all rows with the columns that they may pair with. The parents stand alone, and all ranks are zero at first.

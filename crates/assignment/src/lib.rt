@@ -81,7 +81,7 @@ pub fn pair_columns(
 
 // The pairs and lists of the takers.
 fn listed(takers: &[usize; 64], rows: usize, columns: usize) -> Assignment
-    requires { (rows ≤ 64) × (columns ≤ 64) × (length takers.now ≡ 64) }
+    requires { (rows ≤ 64) × (columns ≤ 64) }
     ensures { result ≡ assignment_of (pairs_of rows (takers_of columns takers.now)) }
 {
     let mut pair_rows = [0usize; 64];

@@ -10,10 +10,9 @@ pub fn largest_finite(costs: &[f64], first: f64) -> f64
     ensures { result ≡ largest first costs.now }
 {
     let mut m = first;
-    for k in 0..costs.len() {
-        let x = costs[k];
-        if number::float::is_finite(x) {
-            m = number::float::larger(m, x);
+    for x in costs {
+        if number::float::is_finite(*x) {
+            m = number::float::larger(m, *x);
             continue;
         }
     }
@@ -27,20 +26,11 @@ pub fn sentinel(m: f64) -> f64
     m + number::float::larger(number::float::absolute(m), 1.0) * 1.0e6 + 1.0e9
 }
 
-// How many of the first n names are g.
-// A leaf, as the gathering below is: the stages of a cascade call both with counts of at most 64 and arrays of their own.
-pub fn count_named(names: &[usize; 64], n: usize, g: usize) -> usize
-    requires { n ≤ 64 }
-    ensures { result ≡ ticks (bears names.now g) n }
+// How many of the names are g.
+pub fn count_named(names: &[usize], g: usize) -> usize
+    ensures { result ≡ ticks (bears names.now g) (length names.now) }
 {
-    let mut c = 0usize;
-    for j in 0..n {
-        if names[j] == g {
-            c += 1;
-            continue;
-        }
-    }
-    c
+    names.iter().filter(|name| **name == g).count()
 }
 
 // A leaf of the gathering below, which stays within its arrays. The costs of one row in the columns of group g, laid from `from` on, and where they end; the row begins at `at`.
@@ -78,7 +68,7 @@ pub fn gather_in(
     own: &mut [f64],
     members: &mut [usize; 64],
 ) -> usize
-    requires { (rows ≤ 64) × (columns ≤ 64) × (length costs.now ≡ rows * columns) × (rows * columns ≤ length own.old) × (length own.old ≤ 4096) × (length members.old ≡ 64) }
+    requires { (rows ≤ 64) × (columns ≤ 64) × (length costs.now ≡ rows * columns) × (rows * columns ≤ length own.old) × (length own.old ≤ 4096) }
     ensures { GatheredIn (length own.old) costs.now rows columns row_names.now column_names.now g own.new members.new result }
 {
     let mut k = 0usize;
@@ -105,7 +95,7 @@ pub fn gather(
     own: &mut [f64; 4096],
     members: &mut [usize; 64],
 ) -> usize
-    requires { (rows ≤ 64) × (columns ≤ 64) × (length costs.now ≡ rows * columns) × (length own.old ≡ 4096) × (length members.old ≡ 64) }
+    requires { (rows ≤ 64) × (columns ≤ 64) × (length costs.now ≡ rows * columns) }
     ensures { Gathered costs.now rows columns row_names.now column_names.now g own.new members.new result }
 {
     gather_in(

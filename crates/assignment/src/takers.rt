@@ -15,36 +15,35 @@ ghost use Rattle.assignment.specs.Taking.{taker_number, takers_of, Taken, Call, 
 
 use hungarian::RunError;
 
-// The row of the whole table for the row t of a group's square, which has r rows of its own; rows of a square count from 1. 64 for a dummy.
-fn taker(t: usize, r: usize, members: &[usize; 64]) -> usize
-    requires { r ≤ 64 }
-    ensures { result ≡ taker_number members.now r t }
+// The row of the whole table for the row t of a group's square, whose own rows are `members`; rows of a square count from 1. 64 for a dummy.
+fn taker(t: usize, members: &[usize]) -> usize
+    ensures { result ≡ taker_number members.now (length members.now) t }
 {
     if t == 0 {
         return 64;
     }
-    let i = t - 1;
-    if i < r { members[i] } else { 64 }
+    match members.get(t - 1) {
+        Some(i) => *i,
+        None => 64,
+    }
 }
 
 // Gives each column of group g the row that p has for it.
 fn take_columns(
-    names: &[usize; 64],
-    columns: usize,
+    names: &[usize],
     g: usize,
     p: &[usize; 129],
-    r: usize,
-    members: &[usize; 64],
+    members: &[usize],
     takers: &mut [usize; 64],
 )
-    requires { (columns ≤ 64) × (r ≤ 64) × (length takers.old ≡ 64) }
-    ensures { Taken names.now g columns p.now r members.now takers.old takers.new }
+    requires { length names.now ≤ 64 }
+    ensures { Taken names.now g (length names.now) p.now (length members.now) members.now takers.old takers.new }
 {
     let mut k = 0usize;
-    for j in 0..columns {
-        if names[j] == g {
+    for (j, name) in names.iter().enumerate() {
+        if *name == g {
             k += 1;
-            takers[j] = taker(p[k], r, members);
+            takers[j] = taker(p[k], members);
             continue;
         }
     }
@@ -96,6 +95,7 @@ fn solve_front(own: &[f64], shape: hungarian::Shape, p: &mut [usize; 129]) -> Re
 }
 
 // Group g, if there is one: its own table is solved, and its columns take their rows.
+#[tactic(auto, using(crate::proofs::Picking::gathered_few))]
 fn solve_group(
     costs: &[f64],
     rows: usize,
@@ -109,13 +109,13 @@ fn solve_group(
     p: &mut [usize; 129],
     takers: &mut [usize; 64],
 ) -> Result<(), RunError>
-    requires { Call costs.now rows columns row_names.now column_names.now × (g < rows) × Room rows columns own.old × (length members.old ≡ 64) × (length takers.old ≡ 64) }
-    ensures { (length own.new ≡ length own.old) × (length members.new ≡ 64) × GroupTaken costs.now rows columns prices.far prices.row prices.column g result takers.old takers.new }
+    requires { Call costs.now rows columns row_names.now column_names.now × (g < rows) × Room rows columns own.old }
+    ensures { (length own.new ≡ length own.old) × GroupTaken costs.now rows columns prices.far prices.row prices.column g result takers.old takers.new }
 {
     if row_names[g] != g {
         return Ok(());
     }
-    let c = crate::table::count_named(column_names, columns, g);
+    let c = crate::table::count_named(&column_names[..columns], g);
     if c == 0 {
         return Ok(());
     }
@@ -137,7 +137,7 @@ fn solve_group(
         col: prices.column,
     };
     solve_front(own, shape, p)?;
-    take_columns(column_names, columns, g, p, r, members, takers);
+    take_columns(&column_names[..columns], g, p, &members[..r], takers);
     Ok(())
 }
 
@@ -152,7 +152,7 @@ fn solve_groups_in(
     own: &mut [f64],
     takers: &mut [usize; 64],
 ) -> Result<(), RunError>
-    requires { Call costs.now rows columns row_names.now column_names.now × Room rows columns own.old × (length takers.old ≡ 64) }
+    requires { Call costs.now rows columns row_names.now column_names.now × Room rows columns own.old }
     ensures { AllTaken costs.now rows columns prices.far prices.row prices.column result takers.old takers.new }
 {
     let mut members = [0usize; 64];
@@ -185,7 +185,7 @@ fn solve_groups(
     prices: Prices,
     takers: &mut [usize; 64],
 ) -> Result<(), RunError>
-    requires { Call costs.now rows columns row_names.now column_names.now × (length takers.old ≡ 64) }
+    requires { Call costs.now rows columns row_names.now column_names.now }
     ensures { AllTaken costs.now rows columns prices.far prices.row prices.column result takers.old takers.new }
 {
     if costs.len() <= 256 {

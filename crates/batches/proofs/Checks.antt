@@ -1,15 +1,15 @@
 -- What the tests on the way of a batch's check say of its definition, and what a pass over its detections has found. Assumes nothing.
 use Rattle.std.specs.Prelude.{None, Option}
-use mathlib.Core.Path.{◌≡◌, refl, sym, ap, ◌∙◌, subst}
+use mathlib.Core.Path.{◌≡◌, refl, sym, ap, ◌∙◌}
 use mathlib.Core.Bool.{Bool, true, false}
 use lib.IntN.{ℤ}
 use borrow.Author.Tests.{le-leb, lt-leb}
 use mathlib.Core.List.{List, [], ◌∷◌, ◌++◌}
-use Prim.Native.Nat.{ℕ, zero, suc, ◌+◌, ◌≤◌, ◌<◌}
+use Prim.Native.Nat.{ℕ, suc, ◌+◌, ◌≤◌, ◌<◌}
 use native.Mathlib.Omega.{arith}
 use native.Mathlib.Numerals.{add-one}
-use lib.ListN.{length, take, drop, get_or}
-use lib.Seq.{take-suc}
+use lib.ListN.{length, take, drop, get_or, take-append-drop}
+use lib.Seq.{take-suc, take-length}
 use Rattle.number.specs.Reply.{Reply, refused, given, refuse_unless, and_then}
 use Rattle.detections.specs.declared.Detection.{Detection}
 use Rattle.detections.specs.Detection.{detection_reply}
@@ -56,25 +56,23 @@ pub passed_none : (l : List Detection) → Passed l 0
 unfolding Passed detections_reply
 passed_none l = refl
 
-pub passed_all : (l : List Detection) (i : ℕ) → Passed l i → given tt ≡ detections_reply (take i l)
+pub passed_all : (l : List Detection) (i : ℕ) → i ≡ length l → Passed l i → given tt ≡ detections_reply l
 unfolding Passed
-passed_all l i p = sym p
+passed_all l i h p = sym p ∙ ap (λ (n : ℕ). detections_reply (take n l)) h ∙ ap detections_reply (take-length l)
 
-module _ (l : List Detection) (None : Detection) where
-  pub passed_more : (i : ℕ) → i < length l → Passed l i → detection_reply (get_or l i None) ≡ given tt → Passed l (i + 1)
+module _ (l : List Detection) (i : ℕ) (inside : i < length l) (passed : Passed l i) where
+  -- the next decides for a list that ends with it
+  next : detections_reply (take (suc i) l) ≡ detection_reply (get_or l i no_detection)
   unfolding Passed
-  passed_more i h p e = rw (add-one, take-suc l i None h) (after_all (take i l) (get_or l i None) p ∙ e)
+  next = rw (take-suc l i no_detection inside) (after_all (take i l) (get_or l i no_detection) passed)
 
-  pub passed_not : (i n k : ℕ) → i < n → n ≤ length l → Passed l i → detection_reply (get_or l i None) ≡ refused k → detections_reply (take n l) ≡ refused k
+  pub passed_more : detection_reply (get_or l i no_detection) ≡ given tt → Passed l (i + 1)
   unfolding Passed
-  passed_not i n k h m p e = subst (λ (x : List Detection). detections_reply x ≡ refused k) (split l (suc i) n (omega arith)) (refused_all (take (suc i) l) _ k (rw (take-suc l i None (omega arith)) (after_all (take i l) (get_or l i None) p ∙ e)))
-    where
-      split : (l : List Detection) (a b : ℕ) → a ≤ b → take a l ++ drop a (take b l) ≡ take b l
-      split l zero b h = refl
-      split [] (suc a) zero h = refl
-      split [] (suc a) (suc b) h = refl
-      split (x ∷ l) (suc a) zero h = absurd (omega (arith, h))
-      split (x ∷ l) (suc a) (suc b) h = ap (λ (y : List Detection). x ∷ y) (split l a b (omega arith))
+  passed_more e = rw add-one (next ∙ e)
+
+  pub passed_not : (k : ℕ) → detection_reply (get_or l i no_detection) ≡ refused k → detections_reply l ≡ refused k
+  passed_not k e =
+      ap detections_reply (sym (take-append-drop (suc i) l)) ∙ refused_all (take (suc i) l) (drop (suc i) l) k (next ∙ e)
 
 -- ---- the tests in their order
 module _ (frame : FrameName) (last : Option ℤ) (l : List SensorSequence) (b : ObservationBatch3D) where

@@ -1,7 +1,7 @@
 // The check of a batch, before any track is looked at.
 #![tactic(auto)]
 
-ghost use Rattle.std.specs.Prelude.{◌≡◌, ◌≤◌, take};
+ghost use Rattle.std.specs.Prelude.{◌≡◌, take};
 ghost use Rattle.types.specs.Refusals.{reply_of};
 ghost use Rattle.batches.specs.Check.{detections_reply, is_before, is_repeated, batch_reply};
 
@@ -33,13 +33,12 @@ fn is_repeated(last: Option<u64>, sequence: u64) -> bool
     }
 }
 
-// The check of the first n detections: the first that is refused decides.
-fn validate_detections(observations: [Detection; MAX_OBSERVATIONS], n: usize) -> Result<(), Refusal>
-    requires { n ≤ 64 }
-    ensures { reply_of result ≡ detections_reply (take n observations) }
+// The check of the detections: the first that is refused decides.
+fn validate_detections(observations: &[Detection]) -> Result<(), Refusal>
+    ensures { reply_of result ≡ detections_reply observations.now }
 {
-    for i in 0..n {
-        detections::validate_detection(observations[i])?;
+    for d in observations {
+        detections::validate_detection(*d)?;
     }
     Ok(())
 }
@@ -57,7 +56,6 @@ pub fn validate_batch(
     let sensor = batch.sensor_id;
     let count = batch.count;
     let declared = batch.frame_id;
-    let observations = batch.observations;
     let table = Sequences {
         entries: sequences,
         count: sequence_count,
@@ -74,7 +72,7 @@ pub fn validate_batch(
     if is_repeated(table.last(sensor), batch.sequence) {
         return Err(Refusal::DuplicateBatch);
     }
-    validate_detections(observations, count)?;
+    validate_detections(&batch.observations[..count])?;
     if table.has_room_for(sensor) {
         Ok(())
     } else {

@@ -3,7 +3,7 @@ use mathlib.Core.Path.{◌≡◌}
 use mathlib.Core.Bool.{Bool, true, false}
 use mathlib.Core.List.{List}
 use Prim.Native.Nat.{ℕ, ◌+◌, ◌≤◌, ◌<◌}
-use lib.ListN.{get_or, set, length}
+use lib.ListN.{get_or, set}
 use lib.Ieee.{Float}
 use lib.Ieee.Scale.{finite}
 use Rattle.kuhn_munkres.specs.Binary64.{float}
@@ -38,9 +38,6 @@ module _ {a : ℕ → ℕ → Float} {n : ℕ} {first : State Float} {t : ℕ} {
     module _ {u' v' minv'' : List Float} (fine : finite b'.delta ≡ true) (pays : pots u' v' ≡ paid float (set used j0 true) p b'.delta (pots u v) (n + 1)) (lowers : minv'' ≡ lowered float b'.delta minv' (n + 1)) where
       shifted : Holds float (step float n (look float a n i.s)) u' v' minv'' p way' (set used j0 true) b'.j1 b'
       shifted = stepped float outside a n few (look float a n i.s) u v minv' p way' (set used j0 true) j0 b' seen u' v' minv'' pays lowers
-
-      pub way_room : length way' ≡ 129
-      way_room = shifted.way_long
 
       pub found_here : get_or p b'.j1 0 ≡ 0 → went u' v' way' p b'.j1 ≡ met (search float a n (n + 1) first)
       found_here h = finds a n first t u v minv p way used j0 i le u' v' minv' minv'' way' (set used j0 true) b' seen shifted fine h

@@ -1,11 +1,13 @@
 -- One step of each of the loops, as their proofs use it. Any numbers.
 use mathlib.Core.Path.{◌≡◌, refl, sym, ap, ◌∙◌}
 use mathlib.Core.Bool.{Bool, true, false, cond, not, ◌||◌}
-use mathlib.Core.List.{List}
-use Prim.Native.Nat.{ℕ, zero, suc, ◌+◌, ◌≤◌}
+use mathlib.Core.List.{List, ◌++◌}
+use Prim.Native.Nat.{ℕ, zero, suc, ◌+◌, ◌≤◌, ◌<◌}
 use native.Mathlib.Numerals.{add-one}
 use native.Mathlib.Omega.{arith}
-use lib.ListN.{get_or, set}
+use lib.ListN.{get_or, set, length, take, drop, length-set, get_or-append}
+use lib.Seq.{length-take-le}
+use Rattle.std.proofs.lemmas.List.{set-append_left, take-append-drop}
 use Rattle.kuhn_munkres.specs.Ops.{Ops}
 use Rattle.hungarian.specs.Passes.{Two, Least, Pots, relaxed, better, chosen, lowered, pay_at, paid, two, pots, Quiet, QuietIf, FreeIf}
 
@@ -53,6 +55,28 @@ module _ {N : Type 0} (O : Ops N) where
   pub lowered_step : (d : N) (m t : List N) (k : ℕ) → t ≡ lowered O d m k → set t k (O.sub (get_or t k O.out) d) ≡ lowered O d m (k + 1)
   unfolding lowered
   lowered_step d m t k q = ap (λ (x : List N). set x k (O.sub (get_or x k O.out) d)) q ∙ sym (ap (λ (i : ℕ). lowered O d m i) (add-one k))
+
+  lowered_long : (d : N) (m : List N) (k : ℕ) → length (lowered O d m k) ≡ length m
+  unfolding lowered
+  lowered_long d m zero = refl
+  lowered_long d m (suc k) = length-set (lowered O d m k) k (O.sub (get_or (lowered O d m k) k O.out) d) ∙ lowered_long d m k
+
+  lowered_left : (d : N) (a b : List N) (k : ℕ) → k ≤ length a → lowered O d (a ++ b) k ≡ lowered O d a k ++ b
+  unfolding lowered
+  lowered_left d a b zero h = refl
+  lowered_left d a b (suc k) h =
+      let x = lowered O d a k in
+      let inside : k < length x = rw (lowered_long d a k) (omega arith) in
+      ap (λ (t : List N). set t k (O.sub (get_or t k O.out) d)) (lowered_left d a b k (omega arith))
+      ∙ ap (λ (y : N). set (x ++ b) k (O.sub y d)) (get_or-append x b O.out k inside)
+      ∙ set-append_left x b k (O.sub (get_or x k O.out) d) inside
+
+  -- the front alone, and the rest as it was
+  pub lowered_front : (d : N) (m : List N) (n : ℕ) → n ≤ length m → lowered O d (take n m) (length (take n m)) ++ drop n m ≡ lowered O d m n
+  lowered_front d m n h =
+      ap (λ (k : ℕ). lowered O d (take n m) k ++ drop n m) (length-take-le n m h)
+      ∙ sym (lowered_left d (take n m) (drop n m) n (rw (length-take-le n m h) (omega arith)))
+      ∙ ap (λ (t : List N). lowered O d t n) (take-append-drop n m)
 
   module _ (used : List Bool) (p : List ℕ) (d : N) (s t : Pots N) (k : ℕ) (q : t ≡ paid O used p d s k) where
     by : (b : Bool) → get_or used k false ≡ b

@@ -5,7 +5,7 @@ use mathlib.Core.List.{List}
 use Prim.Native.Nat.{ℕ, suc, ◌+◌, ◌≤◌, ◌<◌, zero-le}
 use native.Mathlib.Omega.{arith}
 use native.Mathlib.Numerals.{add-one}
-use lib.ListN.{get_or, set, length, replicate}
+use lib.ListN.{get_or, set, replicate}
 use lib.Seq.{get_or-set_same}
 use lib.Ieee.{Float}
 use Rattle.kuhn_munkres.specs.Binary64.{float}
@@ -60,11 +60,10 @@ module _ (a : ℕ → ℕ → Float) (n : ℕ) where
     pub j0 : ℕ
     pub is : found (st u v m p way used j0 b) ≡ rows float a n k
     pub sane : Sane n (st u v m p way used j0 b)
-    pub way_long : length way ≡ 129
 
   pub row_first : Row 0 (replicate 129 float.zer) (replicate 129 float.zer) (replicate 129 0) (replicate 129 0)
   unfolding rows fresh
-  row_first = record { b = none; m = replicate 129 float.top; used = replicate 129 false; j0 = 0; is = refl; sane = fresh_sane float n; way_long = refl }
+  row_first = record { b = none; m = replicate 129 float.top; used = replicate 129 false; j0 = 0; is = refl; sane = fresh_sane float n }
 
   module _ (k : ℕ) (u v : List Float) (p way : List ℕ) (r : Row k u v p way) (le : k < n) where
     pub begun_sane : Sane n (begun u v (set p 0 (k + 1)) way)
@@ -90,9 +89,9 @@ module _ (a : ℕ → ℕ → Float) (n : ℕ) where
       pub went_way : (i : ℕ) → get_or w' i 0 ≤ n
       went_way i = rw g.way_is at ((found_sane float a n (n + 1) (begun u v (set p 0 (k + 1)) way) g.s begun_sane (sym g.is)).way_le i)
 
-      pub row_next : length w' ≡ 129 → Row (k + 1) u' v' (back float (n + 1) w' p' j) w'
+      pub row_next : Row (k + 1) u' v' (back float (n + 1) w' p' j) w'
       unfolding rows leave settle
-      row_next l =
+      row_next =
           let x = g.s in
           let q = settle_sane float n x (found_sane float a n (n + 1) (begun u v (set p 0 (k + 1)) way) x begun_sane (sym g.is)) in
           let e1 : settle float n x ≡ st u' v' x.minv (back float (n + 1) w' p' j) w' x.used j (record { delta = x.delta; j1 = x.j1 }) = settled n x u' v' w' p' j g.u_is g.v_is g.way_is g.p_is g.j0_is in
@@ -103,7 +102,6 @@ module _ (a : ℕ → ℕ → Float) (n : ℕ) where
             j0 = j;
             is = ap (λ (y : State Float). found y) (sym e1) ∙ ap (leave float n) (sym g.is ∙ runs) ∙ sym (ap (λ (i : ℕ). rows float a n i) (add-one k));
             sane = subst (λ (y : State Float). Sane n y) e1 q;
-            way_long = l;
           }
 
     pub row_halts : halted ≡ met (search float a n (n + 1) (begun u v (set p 0 (k + 1)) way)) → halts ≡ end_of (rows float a n n)

@@ -2,6 +2,8 @@
 // the group's own table. A column that is used has a NaN in `minv`, so that no loop asks which they are.
 // The costs, the shape and the arrays of a search stay parameters of their own, and so do the facts of the first two: in a struct that lends the costs (tried), each
 // clause speaks of two moments of it, as `table.entry.costs.now`, which is longer than the facts that it saves.
+// The arrays of a search have 129 places for a group of any size, and the number beside them is where a loop ends, not their length: the type says that an index up
+// to 128 is inside, which a slice would have each function ask. `lower` alone visits every place that it is lent, and so takes a slice.
 #![tactic(auto)]
 
 ghost use Rattle.std.specs.Prelude.{◌≡◌, cond, ℕ, ◌+◌, ◌*◌, ◌≤◌, ◌<◌, length, get_or};
@@ -95,7 +97,7 @@ fn choose_from(minv: &[f64; 129], lo: usize, hi: usize, first: Best) -> Best
     b
 }
 
-// Whether none of columns k + 1 .. k + 8 is below d.
+// Whether none of columns k + 1 .. k + 8 is below d. The eight tests are joined by `|`, which takes no branch, where `any` over a part would take eight.
 fn quiet(minv: &[f64; 129], k: usize, d: f64) -> bool
     requires { k + 8 ≤ 128 }
     ensures { QuietIf float result minv.now k d }
@@ -110,12 +112,12 @@ fn quiet(minv: &[f64; 129], k: usize, d: f64) -> bool
         | (minv[k + 8] < d))
 }
 
-fn lower(minv: &mut [f64; 129], n: usize, delta: f64)
-    requires { n ≤ 128 }
-    ensures { minv.new ≡ lowered float delta minv.old (n + 1) }
+// Every place falls by delta.
+fn lower(minv: &mut [f64], delta: f64)
+    ensures { minv.new ≡ lowered float delta minv.old (length minv.old) }
 {
-    for k in 0..n + 1 {
-        minv[k] = minv[k] - delta;
+    for x in minv.iter_mut() {
+        *x -= delta;
     }
 }
 
@@ -290,7 +292,7 @@ fn shift_all(
     ensures { (pots u.new v.new ≡ paid float used.now p.now delta (pots u.old v.old) (n + 1)) × (minv.new ≡ lowered float delta minv.old (n + 1)) }
 {
     pay(u, v, p, used, n, delta);
-    lower(minv, n, delta);
+    lower(&mut minv[..n + 1], delta);
 }
 
 // Why a search ends without a free column: a step that is not finite; no turns left, which does not happen.
@@ -309,8 +311,8 @@ fn find_path(
     p: &[usize; 129],
     way: &mut [usize; 129],
 ) -> Result<usize, SearchError>
-    requires { (q.rows ≤ 64) × (q.cols ≤ 64) × (length costs.now ≡ q.rows * q.cols) × (length way.old ≡ 129) × Sane (q.rows + q.cols) (begun u.old v.old p.now way.old) × (0 < get_or p.now 0 0) }
-    ensures { (met_of result u.new v.new way.new p.now ≡ met (search float (entry float (square_from costs.now q)) (q.rows + q.cols) (q.rows + q.cols + 1) (begun u.old v.old p.now way.old))) × (length way.new ≡ 129) }
+    requires { (q.rows ≤ 64) × (q.cols ≤ 64) × (length costs.now ≡ q.rows * q.cols) × Sane (q.rows + q.cols) (begun u.old v.old p.now way.old) × (0 < get_or p.now 0 0) }
+    ensures { met_of result u.new v.new way.new p.now ≡ met (search float (entry float (square_from costs.now q)) (q.rows + q.cols) (q.rows + q.cols + 1) (begun u.old v.old p.now way.old)) }
 {
     let top = f64::INFINITY;
     let n = q.rows + q.cols;

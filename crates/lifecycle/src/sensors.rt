@@ -21,40 +21,23 @@ fn bound(limit: usize) -> usize
     }
 }
 
-// Whether the sensor is among the first n.
-fn contains(ids: [u32; 16], n: usize, sensor: u32) -> bool
-    requires { n ≤ 16 }
-    ensures { result ≡ any (is sensor) (take n ids) }
-{
-    ids[..n].contains(&sensor)
-}
-
-// The first of n forgotten, the others moved down and the sensor put behind them.
-fn replace_oldest(mut ids: [u32; 16], n: usize, sensor: u32) -> [u32; 16]
-    requires { (0 < n) × (n ≤ 16) }
-    ensures { result ≡ lay (drop 1 (take n ids) ++ (sensor ∷ [])) ids }
-{
-    ids.copy_within(1..n, 0);
-    ids[n - 1] = sensor;
-    ids
-}
-
-// A sensor that is new goes last; where the limit is reached the oldest is forgotten.
-pub fn record_sensor(s: Sensors, sensor: u32, limit: usize) -> Sensors
-    ensures { result ≡ over s (recorded_of (sensors_of s) sensor limit) }
-{
-    let mut ids = s.ids;
-    // How many of the places are taken, whatever the count says.
-    let n = s.count.min(16);
-    if contains(ids, n, sensor) {
-        Sensors { ids, count: n }
-    } else if bound(limit) <= n {
-        Sensors {
-            ids: replace_oldest(ids, n, sensor),
-            count: n,
+impl Sensors {
+    // A sensor that is new goes last; where the limit is reached the oldest is forgotten and the others are moved down.
+    pub fn record_sensor(self, sensor: u32, limit: usize) -> Self
+        ensures { result ≡ over self (recorded_of (sensors_of self) sensor limit) }
+    {
+        let mut ids = self.ids;
+        // How many of the places are taken, whatever the count says.
+        let n = self.count.min(16);
+        if ids[..n].contains(&sensor) {
+            Sensors { ids, count: n }
+        } else if bound(limit) <= n {
+            ids.copy_within(1..n, 0);
+            ids[n - 1] = sensor;
+            Sensors { ids, count: n }
+        } else {
+            ids[n] = sensor;
+            Sensors { ids, count: n + 1 }
         }
-    } else {
-        ids[n] = sensor;
-        Sensors { ids, count: n + 1 }
     }
 }

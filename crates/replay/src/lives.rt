@@ -144,7 +144,7 @@ pub fn run(rt: &impl Print, r: Lives, line: Line) -> io::Result<Lives> {
             with_sensors(rt, r, empty, first as usize)
         }
         b'S' => {
-            let more = lifecycle::sensors::record_sensor(r.sensors, count_of(first), r.limit);
+            let more = r.sensors.record_sensor(count_of(first), r.limit);
             with_sensors(rt, r, more, r.limit)
         }
         _ => run_life(rt, r, line.letter, first),

@@ -1,19 +1,21 @@
 -- Where a sensor's sequence number stands, and where it is noted. Assumes nothing.
 use Rattle.std.specs.Prelude.{None, Some, Option, is_some}
-use mathlib.Core.Path.{◌≡◌, refl, ap, sym, subst, ◌∙◌}
+use mathlib.Core.Path.{◌≡◌, refl, ap, sym, ◌∙◌}
 use mathlib.Core.Bool.{Bool, true, false, cond}
-use mathlib.Core.List.{List, [], ◌∷◌}
-use Prim.Native.Nat.{ℕ, zero, suc, ◌+◌, ◌≤◌, ◌<◌, min}
+use mathlib.Core.List.{List, [], ◌∷◌, ◌++◌, append_assoc}
+use Prim.Native.Nat.{ℕ, zero, suc, ◌+◌, ◌-◌, ◌≤◌, ◌<◌, min}
 use native.Mathlib.Omega.{arith}
 use lib.Dec.{eqb, ltb}
-use lib.ListN.{length, take, get_or, set}
-use lib.Seq.{get_or-take}
+use lib.ListN.{length, take, drop, get_or, set, length-append, length-drop}
+use lib.Seq.{get_or-take, paste, append_snoc, set_at, take-suc, take-take, take-nil, length-take-le}
+use native.Mathlib.Nat.{sub-zero, suc-sub-suc}
+use native.Mathlib.Numerals.{add-one}
 use borrow.Author.Tests.{eq-eqb, ne_eqb, lt-ltb, le-ltb}
 use Rattle.std.specs.Bool.{then_some}
 use Rattle.lists.specs.First.{one_place_on, first_at}
+use Rattle.lists.specs.Lay.{lay}
 use Rattle.lists.specs.Table.{table, over_table, inserted}
 use Rattle.lists.proofs.Firsts.{Leads, first_leads, rest, passed}
-use Rattle.lists.proofs.Loops.{Opened, opened_end}
 use Rattle.lists.proofs.Tables.{count_room, rows, rows_length, unchanged, stored, grown}
 use Rattle.types.specs.declared.tracker.SensorSequence.{SensorSequence}
 use Rattle.tables.specs.Sequences.{entry, not_before, last_of, noted, room_for, inserted_in, noted_in}
@@ -156,13 +158,37 @@ room_new a count sensor size h = rw (sym h) (sym (count_room a 32 count size))
 
 -- ---- an entry put among the others
 
+-- the first n elements from i on copied one place up, and x stored at i
+opened : {A : Type 0} (d x : A) (i n : ℕ) (l : List A) → i ≤ n → n < length l → set (paste l (i + 1) (drop i l) (n - i)) i x ≡ lay (inserted i x (take n l)) l
+unfolding lay
+opened {A} d x i n l h r =
+    let y : A = get_or l i d in
+    let t : List A = take (n - i) (drop i l) in
+    let e : i + 1 + (n - i) ≡ n + 1 = omega arith in
+    let f : take i l ≡ take i (take n l) = sym (take-take i n l h) in
+    let g : t ≡ drop i (take n l) = take_drop i n l h in
+    let w : take (i + 1) l ≡ take i l ++ (y ∷ []) = ap (λ (k : ℕ). take k l) (add-one i) ∙ take-suc l i d (omega arith) in
+    let k : length (inserted i x (take n l)) ≡ n + 1 = length-append (take i (take n l)) (x ∷ drop i (take n l)) ∙ omega (arith, length-take-le n l (omega arith), length-take-le i (take n l) (omega (arith, length-take-le n l (omega arith))), length-drop i (take n l)) in
+    rw (e, k)
+    (ap (λ (q : List A). set (q ++ t ++ drop (n + 1) l) i x) w
+    ∙ ap (λ (q : List A). set q i x) (append_assoc (take i l ++ (y ∷ [])) t (drop (n + 1) l) ∙ append_snoc (take i l) y (t ++ drop (n + 1) l))
+    ∙ set_at (take i l) y (t ++ drop (n + 1) l) x i (length-take-le i l (omega arith))
+    ∙ sym (append_assoc (take i l) (x ∷ t) (drop (n + 1) l))
+    ∙ ap (λ (q : List A). q ++ (x ∷ t) ++ drop (n + 1) l) f
+    ∙ ap (λ (q : List A). take i (take n l) ++ (x ∷ q) ++ drop (n + 1) l) g)
+  where
+    take_drop : (i n : ℕ) (l : List A) → i ≤ n → take (n - i) (drop i l) ≡ drop i (take n l)
+    take_drop zero n l h = ap (λ (k : ℕ). take k l) (sub-zero n)
+    take_drop (suc i) zero l h = absurd (omega arith)
+    take_drop (suc i) (suc n) [] h = take-nil (suc n - suc i)
+    take_drop (suc i) (suc n) (y ∷ l) h = ap (λ (k : ℕ). take k (drop i l)) (suc-sub-suc n i) ∙ take_drop i n l (omega arith)
+
 module _ (a : List SensorSequence) (count n : ℕ) (size : length a ≡ 32) (taken : n ≡ min count 32) (i : ℕ) (x : SensorSequence) where
   pub inserted_full : 32 ≤ n → table a n ≡ over_table (inserted_in 32 i x (take count a)) a
   inserted_full h = unchanged a 32 count n size taken (inserted_in 32 i x) (rw (le-ltb (length (take n a)) 32 (omega (arith, rows_length a 32 count n size taken))))
 
-  pub inserted_room : (m : List SensorSequence) (j : ℕ) (y : SensorSequence) → Opened no_sequence x i a m j y → j ≡ n → n < 32 → table (set m n y) (n + 1) ≡ over_table (inserted_in 32 i x (take count a)) a
-  inserted_room m j y s e h =
-      let o : Opened no_sequence x i a m n y = subst (λ (k : ℕ). Opened no_sequence x i a m k y) e s in
-      grown a 32 count n size taken (inserted_in 32 i x) i x (set m n y) o.from
+  pub inserted_room : i ≤ n → n < 32 → table (set (paste a (i + 1) (drop i a) (n - i)) i x) (n + 1) ≡ over_table (inserted_in 32 i x (take count a)) a
+  inserted_room h k =
+      grown a 32 count n size taken (inserted_in 32 i x) i x _ h
       (rw (lt-ltb (length (take n a)) 32 (omega (arith, rows_length a 32 count n size taken))))
-      (opened_end no_sequence x i a m n y o (omega arith))
+      (opened no_sequence x i n a h (omega arith))

@@ -48,13 +48,8 @@ impl Sequences {
         if n == MAX_SEQUENCES {
             return Sequences { entries, count: n };
         }
-        let mut waiting = entry;
-        for j in at..n {
-            let next = entries[j];
-            entries[j] = waiting;
-            waiting = next;
-        }
-        entries[n] = waiting;
+        entries.copy_within(at..n, at + 1);
+        entries[at] = entry;
         Sequences {
             entries,
             count: n + 1,

@@ -62,6 +62,7 @@ pub fn clear_marks(mut s: Cartesian3DTracker) -> Cartesian3DTracker
     ensures { result ≡ over_tracks s (map (with_mark false) (tracks_of s)) }
 {
     let n = super::taken(s.track_count, MAX_TRACKS);
+    // By index: after `iter_mut` over a part of the field the proof has no fact that says what the field holds (tried).
     for i in 0..n {
         s.tracks[i].updated_this_batch = false;
     }

@@ -83,7 +83,7 @@ fn observe(x: Track3D, seen: Option<u32>, u: Update) -> Track3D
     let contributed = types::track::with_sensors(
         timed,
         Some(sensor),
-        lifecycle::sensors::record_sensor(sensors, sensor, u.limit),
+        sensors.record_sensor(sensor, u.limit),
     );
     let labelled = types::track::with_class_label(contributed, class.or(seen));
     types::track::with_mark(labelled, true)

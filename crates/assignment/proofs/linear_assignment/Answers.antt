@@ -5,7 +5,7 @@ use Rattle.assignment.proofs.linear_assignment.Goals as goal
 pub listed-requires : goal.listed-requires
 listed-requires c =
     let q = few c.args.costs.now c.args.rows c.args.columns c.args.unmatched_row_cost c.args.unmatched_column_cost _ c.in_ok-pair_columns.ensures.0 in
-    (q.0, q.1, c.pair_columns.ensures.1)
+    (q.0, q.1)
 
 pub returns : goal.returns
 returns c = answer_given c.args.costs.now c.args.rows c.args.columns c.args.unmatched_row_cost c.args.unmatched_column_cost _ _ c.in_ok-pair_columns.ensures.0 c.listed.ensures

@@ -1,5 +1,5 @@
 use mathlib.Core.Path.{◌≡◌}
-use Prim.Native.Nat.{◌-◌, ◌≤◌}
+use Prim.Native.Nat.{◌≤◌}
 use Rattle.kuhn_munkres.specs.Binary64.{float}
 use Rattle.hungarian.specs.Passes.{chosen}
 use Rattle.hungarian.specs.Structs.{least_of}
@@ -7,6 +7,3 @@ use Rattle.hungarian.proofs.choose_from.Given as goal
 
 abbrev pub invariant-loop-k : goal.invariant-loop-k
 invariant-loop-k l = (l.lo ≤ l.k) × (l.k ≤ l.hi) × (least_of l.b ≡ chosen float l.minv l.k)
-
-abbrev pub decreases-loop-k : goal.decreases-loop-k
-decreases-loop-k l = l.hi - l.k

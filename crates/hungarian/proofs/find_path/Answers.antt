@@ -1,5 +1,4 @@
 use mathlib.Core.Path.{◌≡◌, refl, sym, ◌∙◌}
-use mathlib.Core.List.{[]}
 use Prim.Native.Nat.{◌+◌, ◌-◌, ◌≤◌}
 use native.Mathlib.Omega.{arith}
 use lib.ListN.{replicate}
@@ -12,7 +11,7 @@ use Rattle.hungarian.proofs.Places.{fits8}
 use Rattle.hungarian.proofs.Mask.{mask}
 use Rattle.hungarian.specs.Ends.{begun, none}
 use Rattle.hungarian.proofs.Path.{ends}
-use Rattle.hungarian.proofs.Looking.{j0_room, row_in, row_room, seen, next_room, stopped_here, way_room, found_here, next_turn}
+use Rattle.hungarian.proofs.Looking.{j0_room, row_in, row_room, next_room, stopped_here, found_here, next_turn}
 use Rattle.hungarian.proofs.find_path.Goals as goal
 
 pub loop-t-init : goal.loop-t-init
@@ -25,9 +24,9 @@ loop-t-init c =
       record {
         s = begun c.args.u.now c.args.v.now c.args.p.now c.args.way.now;
         b = none;
-        holds = record { m = replicate 129 float.top; is = refl; masked = refl; long = refl; way_long = c.requires.3; used_long = refl };
-        sane = c.requires.4;
-        row = c.requires.5;
+        holds = record { m = replicate 129 float.top; is = refl; masked = refl; long = refl; way_long = c.told-way; used_long = refl };
+        sane = c.requires.3;
+        row = c.requires.4;
         rest = rw e;
       },
     )
@@ -41,7 +40,7 @@ returns-then-not-is_finite c =
     let i = c.loop-t.invariant.2 in
     let le : c.loop-t.t ≤ c.args.q.rows + c.args.q.cols = omega (arith, c.loop-t-test.true) in
     let e = c.look-b.ensures in
-    (stopped_here (omega arith) i le e.0 e.1 (sym c.is_finite.ensures ∙ c.if-not-is_finite.true), (seen (omega arith) i le e.0 e.1).way_long)
+    stopped_here (omega arith) i le e.0 e.1 (sym c.is_finite.ensures ∙ c.if-not-is_finite.true)
 
 pub shift_all-requires : goal.shift_all-requires
 shift_all-requires c = (omega arith, row_room (omega arith) c.loop-t.invariant.2)
@@ -54,7 +53,7 @@ returns-then-p-j0-eq0 c =
     let e = c.look-b.ensures in
     let fine = sym c.is_finite.ensures ∙ c.if-not-is_finite.false in
     let s = c.shift_all.ensures in
-    (found_here (omega arith) i le e.0 e.1 fine s.0 s.1 c.if-p-j0-eq0.true, way_room (omega arith) i le e.0 e.1 fine s.0 s.1)
+    found_here (omega arith) i le e.0 e.1 fine s.0 s.1 c.if-p-j0-eq0.true
 
 pub loop-t-preserved : goal.loop-t-preserved
 unfolding div of_bits of_fields odd count_trailing_zeros
@@ -66,7 +65,7 @@ loop-t-preserved c =
     (omega (arith, c.loop-t-test.true), refl, next_turn (omega arith) i le e.0 e.1 (sym c.is_finite.ensures ∙ c.if-not-is_finite.false) s.0 s.1 c.if-p-j0-eq0.false)
 
 pub returns : goal.returns
-returns c = let q = c.args.q in let i = c.loop-t.invariant.2 in (ends (entry float (square_from c.args.costs.now q)) (q.rows + q.cols) _ _ _ _ _ _ _ _ _ i (omega arith), i.holds.way_long)
+returns c = let q = c.args.q in let i = c.loop-t.invariant.2 in ends (entry float (square_from c.args.costs.now q)) (q.rows + q.cols) _ _ _ _ _ _ _ _ _ i (omega arith)
 
 pub bounds-p-j0 : goal.bounds-p-j0
 bounds-p-j0 c = j0_room (omega arith) c.loop-t.invariant.2

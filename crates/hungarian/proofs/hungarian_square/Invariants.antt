@@ -1,4 +1,4 @@
-use Prim.Native.Nat.{◌+◌, ◌-◌, ◌≤◌}
+use Prim.Native.Nat.{◌+◌, ◌≤◌}
 use Rattle.kuhn_munkres.specs.Binary64.{float}
 use Rattle.kuhn_munkres.specs.Square.{entry}
 use Rattle.hungarian.specs.Structs.{square_from}
@@ -7,6 +7,3 @@ use Rattle.hungarian.proofs.hungarian_square.Given as goal
 
 abbrev pub invariant-loop-k : goal.invariant-loop-k
 invariant-loop-k l = (l.k ≤ l.q.rows + l.q.cols) × Row (entry float (square_from l.costs l.q)) (l.q.rows + l.q.cols) l.k l.u l.v l.p l.way
-
-abbrev pub decreases-loop-k : goal.decreases-loop-k
-decreases-loop-k l = l.q.rows + l.q.cols - l.k

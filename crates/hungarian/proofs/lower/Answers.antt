@@ -1,17 +1,17 @@
 use mathlib.Core.Path.{◌≡◌, refl}
-use Prim.Native.Nat.{◌+◌}
+use lib.ListN.{length}
 use native.Mathlib.Omega.{arith}
 use Rattle.kuhn_munkres.specs.Binary64.{float}
 use Rattle.hungarian.specs.Passes.{lowered}
 use Rattle.hungarian.proofs.LoopTurns.{lowered_step}
 use Rattle.hungarian.proofs.lower.Goals as goal
 
-pub loop-k-init : goal.loop-k-init
+pub loop-x-init : goal.loop-x-init
 unfolding lowered
-loop-k-init c = (omega arith, refl)
+loop-x-init c = refl
 
-pub loop-k-preserved : goal.loop-k-preserved
-loop-k-preserved c = (omega arith, lowered_step float _ _ _ _ c.loop-k.invariant.1)
+pub loop-x-preserved : goal.loop-x-preserved
+loop-x-preserved c = lowered_step float _ _ _ _ c.loop-x.invariant
 
 pub returns : goal.returns
-returns c = let e : c.loop-k.k ≡ c.args.n + 1 = omega arith in rw e at c.loop-k.invariant.1
+returns c = let e : c.loop-x.x-index ≡ length c.args.minv.now = omega arith in rw e at c.loop-x.invariant

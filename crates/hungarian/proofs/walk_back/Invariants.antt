@@ -6,6 +6,3 @@ use Rattle.hungarian.proofs.walk_back.Given as goal
 
 abbrev pub invariant-loop-t : goal.invariant-loop-t
 invariant-loop-t l = (l.t ≤ l.t-end) × (l.t-end ≡ l.n + 1) × (l.j0 ≤ l.n) × (back float (l.n + 1 - l.t) l.way l.p l.j0 ≡ back float (l.n + 1) l.way l.initial.p l.j)
-
-abbrev pub decreases-loop-t : goal.decreases-loop-t
-decreases-loop-t l = l.t-end - l.t

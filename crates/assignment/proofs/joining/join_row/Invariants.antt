@@ -1,9 +1,6 @@
-use Prim.Native.Nat.{◌-◌, ◌≤◌}
+use Prim.Native.Nat.{◌≤◌}
 use Rattle.assignment.specs.Labelling.{RowJoined}
 use Rattle.assignment.proofs.joining.join_row.Given as goal
 
 abbrev pub invariant-loop-j : goal.invariant-loop-j
 invariant-loop-j l = (l.j ≤ l.columns) × RowJoined l.costs l.at l.base l.i l.j l.initial.parent l.initial.rank l.parent l.rank
-
-abbrev pub decreases-loop-j : goal.decreases-loop-j
-decreases-loop-j l = l.columns - l.j

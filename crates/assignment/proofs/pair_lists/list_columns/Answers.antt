@@ -15,13 +15,24 @@ pub loop-j-preserved : goal.loop-j-preserved
 loop-j-preserved c = (omega arith, λ h g. freeing_take _ _ h g _ _ _ c.loop-j-test.true (c.loop-j.invariant.1 h g) (omega (arith, c.if-takers-j-lt64.false)))
 
 pub returns : goal.returns
-returns c = let e : c.loop-j.j ≡ c.args.columns = omega (arith, c.loop-j-test.false, c.loop-j.invariant.0) in let h = c.requires.0 in let g : c.args.columns ≤ length c.args.takers.now = rw c.requires.2 h in freeing_done _ _ h g _ _ (rw e at (c.loop-j.invariant.1 h g))
+returns c =
+    let h = c.requires.0 in
+    let g : c.args.columns ≤ length c.args.takers.now = rw c.told-takers c.requires.0 in
+    let f = c.loop-j.invariant.1 h g in
+    let e : c.loop-j.j ≡ c.args.columns = omega (arith, c.loop-j-test.false, c.loop-j.invariant.0) in
+    freeing_done _ _ h g _ _ (rw e at f)
 
 pub offset_bounds-free-n : goal.offset_bounds-free-n
-offset_bounds-free-n c = omega (arith, free_room _ _ c.requires.0 (rw c.requires.2 c.requires.0) _ _ _ c.loop-j-test.true (c.loop-j.invariant.1 c.requires.0 (rw c.requires.2 c.requires.0)))
+offset_bounds-free-n c =
+    let g : c.args.columns ≤ length c.args.takers.now = rw c.told-takers c.requires.0 in
+    omega (arith, free_room _ _ c.requires.0 g _ _ _ c.loop-j-test.true (c.loop-j.invariant.1 c.requires.0 g))
 
 pub bounds-free-n : goal.bounds-free-n
-bounds-free-n c = omega (arith, free_room _ _ c.requires.0 (rw c.requires.2 c.requires.0) _ _ _ c.loop-j-test.true (c.loop-j.invariant.1 c.requires.0 (rw c.requires.2 c.requires.0)))
+bounds-free-n c =
+    let g : c.args.columns ≤ length c.args.takers.now = rw c.told-takers c.requires.0 in
+    omega (arith, free_room _ _ c.requires.0 g _ _ _ c.loop-j-test.true (c.loop-j.invariant.1 c.requires.0 g))
 
 pub overflow_add-n : goal.overflow_add-n
-overflow_add-n c = omega (arith, free_room _ _ c.requires.0 (rw c.requires.2 c.requires.0) _ _ _ c.loop-j-test.true (c.loop-j.invariant.1 c.requires.0 (rw c.requires.2 c.requires.0)))
+overflow_add-n c =
+    let g : c.args.columns ≤ length c.args.takers.now = rw c.told-takers c.requires.0 in
+    omega (arith, free_room _ _ c.requires.0 g _ _ _ c.loop-j-test.true (c.loop-j.invariant.1 c.requires.0 g))

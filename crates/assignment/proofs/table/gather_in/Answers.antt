@@ -1,4 +1,5 @@
 use native.Mathlib.Omega.{arith}
+use Rattle.std.proofs.Common.{rules}
 use mathlib.Core.Path.{◌≡◌, refl}
 use borrow.Author.Tests.{eq-eqb, ne_eqb}
 use native.Mathlib.Nat.{suc-mul, mul-le-mul_right}
@@ -6,7 +7,7 @@ use Rattle.assignment.proofs.Picking.{gathering_none, gather_room, gather_member
 use Rattle.assignment.proofs.table.gather_in.Goals as goal
 
 pub loop-i-init : goal.loop-i-init
-loop-i-init c = (omega arith, gathering_none _ _ _ _ _ _ _ _ _ refl c.requires.5)
+loop-i-init c = (omega arith, gathering_none _ _ _ _ _ _ _ _ _ refl (search rules))
 
 pub gather_row-k-requires : goal.gather_row-k-requires
 gather_row-k-requires c =

@@ -1,11 +1,7 @@
 use mathlib.Core.Path.{◌≡◌}
-use Prim.Native.Nat.{◌-◌, ◌≤◌}
-use lib.ListN.{length, drop}
+use lib.ListN.{drop}
 use Rattle.kuhn_munkres.specs.Assignment.{largest}
 use Rattle.assignment.proofs.table.largest_finite.Given as goal
 
-abbrev pub invariant-loop-k : goal.invariant-loop-k
-invariant-loop-k l = (l.k ≤ length l.costs) × (largest l.m (drop l.k l.costs) ≡ largest l.first l.costs)
-
-abbrev pub decreases-loop-k : goal.decreases-loop-k
-decreases-loop-k l = length l.costs - l.k
+abbrev pub invariant-loop-x : goal.invariant-loop-x
+invariant-loop-x l = largest l.m (drop l.x-index l.costs) ≡ largest l.first l.costs

@@ -7,5 +7,5 @@ use Rattle.assignment.proofs.takers.solve_groups.Goals as goal
 
 pub solve_groups_in-requires-2 : goal.solve_groups_in-requires-2
 solve_groups_in-requires-2 c =
-    let q = c.requires.0 in
-    (q, room_of _ _ 4096 _ refl (omega (arith, mul-le-mul_right c.args.columns q.rows_few, q.columns_few)) (lit≤ tt) (lit≤ tt), c.requires.1)
+    let q = c.requires in
+    (q, room_of _ _ 4096 _ refl (omega (arith, mul-le-mul_right c.args.columns q.rows_few, q.columns_few)) (lit≤ tt) (lit≤ tt))
