@@ -46,9 +46,8 @@ pub struct Created {
 pub fn new(config: Cartesian3DTrackerConfig) -> Created
     ensures { NewAnswers config result.outcome result.tracker }
 {
-    let answer = config.validate();
     Created {
-        outcome: types::refusal::of_settings(answer),
+        outcome: config.validate().map_err(Refusal::from),
         tracker: types::tracker::fresh(config),
     }
 }
