@@ -46,8 +46,9 @@ pub struct Created {
 pub fn new(config: Cartesian3DTrackerConfig) -> Created
     ensures { NewAnswers config result.outcome result.tracker }
 {
+    let answer = config.validate();
     Created {
-        outcome: config.validate().map_err(Refusal::from),
+        outcome: answer.map_err(Refusal::from),
         tracker: types::tracker::fresh(config),
     }
 }
