@@ -1,8 +1,9 @@
 -- The squared distance in two parts, one of the filter alone and one for each measurement, is the whole; and what is left out for a measurement that has passed its checks changes nothing. Assumes nothing.
 use mathlib.Core.Path.{◌≡◌, refl, ap, ◌∙◌}
 use mathlib.Core.Bool.{true}
+use Prim.Native.Nat.{ℕ}
 use lib.Ieee.{Float, binary64, mul}
-use Rattle.number.specs.Reply.{given}
+use Rattle.number.specs.Reply.{Reply, given}
 use Rattle.matrix.specs.Matrix.{Vector, Matrix, row_times, product, congruence, plus, symmetrized}
 use Rattle.matrix.specs.Flat.{row_of, rows_of, flat_of}
 use Rattle.finite.specs.Finite.{finite_vector}
@@ -10,9 +11,8 @@ use Rattle.math.specs.Linalg.{validated, squared_distance}
 use Rattle.models.specs.Models.{selection, isotropic}
 use Rattle.filter.specs.declared.KalmanFilter.{KalmanFilter}
 use Rattle.filter.specs.declared.Expected.{Expected}
-use Rattle.filter.specs.Kalman.{innovation, spread, measured_by, measured, update_reply, distance_of}
+use Rattle.filter.specs.Kalman.{innovation, spread, measured_by, measured, checked, update_reply, distance_of}
 use Rattle.filter.specs.Filter.{estimate_of, stored, updated_by_position, updated_by_velocity, updated_by_checked_velocity, squared_mahalanobis, expected_of, innovation_from, spread_from, factor_from, distance_with, distance_from, updated_from}
-use Rattle.filter.proofs.Steps.{check_passed}
 
 -- 9 numbers hold a matrix of three rows whole
 rows_flat : (h p : Matrix) → rows_of 3 3 (flat_of 3 3 (congruence 3 6 h p)) ≡ congruence 3 6 h p
@@ -41,6 +41,10 @@ unfolding updated_from measured
 update_parts f z r = λ i. stored (measured_by 3 6 (same_innovation f z i) (same_spread f r i) (selection 3 6 0) (rows_of 3 3 r) (estimate_of f))
 
 -- ---- for a measurement that passes its checks, the parts give what the whole calls give
+
+check_passed : {A : Type 0} (k : ℕ) (z : Vector) (r : Matrix) (reply : Reply A) → finite_vector k z ≡ true → given tt ≡ validated k r → reply ≡ checked k z r reply
+unfolding checked
+check_passed k z r reply f v = rw (f, ← v)
 
 module _ (f : KalmanFilter) (z r : Vector) (t : finite_vector 3 z ≡ true) (v : given tt ≡ validated 3 (rows_of 3 3 r)) where
   pub checked_distance : distance_from (expected_of f) z r ≡ squared_mahalanobis z r f

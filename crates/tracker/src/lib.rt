@@ -48,7 +48,7 @@ pub fn new(config: Cartesian3DTrackerConfig) -> Created
 {
     let answer = config.validate();
     Created {
-        outcome: types::refusal::of_settings(answer),
+        outcome: answer.map_err(Refusal::from),
         tracker: types::tracker::fresh(config),
     }
 }

@@ -1,39 +1,32 @@
 // What the transition F over dt makes of a covariance, (F P) Fᵀ. Where the covariance is plain it is read off, bit for bit what the products give; else it is worked out.
 #![tactic(auto)]
 
-ghost use Rattle.std.specs.Prelude.{◌≡◌};
+ghost use Rattle.std.specs.Prelude.{◌≡◌, ◌<◌};
 ghost use Rattle.std.specs.Float.{binary64};
 ghost use Rattle.std.specs.Float.Ieee.{add, mul};
-ghost use Rattle.matrix.specs.Matrix.{item, tabulate, nought, congruence};
+ghost use Rattle.matrix.specs.Matrix.{item, row, tabulate, nought, congruence};
 ghost use Rattle.models.specs.Models.{transition};
-ghost use Rattle.transition.specs.Glide.{glided_rows, glided_row, glided_columns, can_glide};
+ghost use Rattle.transition.specs.Glide.{glided_item, glided_rows, glided_row, glided_columns, can_glide};
+
+use std::array::from_fn;
 
 // A row of F P: the positions' row x, moved by dt times the velocities' row y. Adding 0 makes a -0 a +0, as the products do.
 fn position_row(x: [f64; 6], y: [f64; 6], dt: f64) -> [f64; 6]
     ensures { result ≡ tabulate 6 (λ j. add binary64 (add binary64 (item x j) (mul binary64 dt (item y j))) nought) }
 {
-    [
-        x[0] + dt * y[0] + 0.0,
-        x[1] + dt * y[1] + 0.0,
-        x[2] + dt * y[2] + 0.0,
-        x[3] + dt * y[3] + 0.0,
-        x[4] + dt * y[4] + 0.0,
-        x[5] + dt * y[5] + 0.0,
-    ]
+    from_fn(
+        |j| -> f64
+            requires { j < 6 }
+            ensures { result ≡ add binary64 (add binary64 (item x j) (mul binary64 dt (item y j))) nought }
+        { x[j] + dt * y[j] + 0.0 },
+    )
 }
 
 // A row of F P: the velocities' row x as it is.
 fn velocity_row(x: [f64; 6]) -> [f64; 6]
     ensures { result ≡ tabulate 6 (λ j. add binary64 (item x j) nought) }
 {
-    [
-        x[0] + 0.0,
-        x[1] + 0.0,
-        x[2] + 0.0,
-        x[3] + 0.0,
-        x[4] + 0.0,
-        x[5] + 0.0,
-    ]
+    x.map(|y| y + 0.0)
 }
 
 // F P, read off.
@@ -54,28 +47,30 @@ fn glide_rows(p: [[f64; 6]; 6], dt: f64) -> [[f64; 6]; 6]
 fn glide_row(x: [f64; 6], dt: f64) -> [f64; 6]
     ensures { result ≡ glided_row 6 3 dt x }
 {
-    [
-        x[0] + dt * x[3] + 0.0,
-        x[1] + dt * x[4] + 0.0,
-        x[2] + dt * x[5] + 0.0,
-        x[3] + 0.0,
-        x[4] + 0.0,
-        x[5] + 0.0,
-    ]
+    from_fn(
+        |j| -> f64
+            requires { j < 6 }
+            ensures { result ≡ glided_item 3 dt (λ k. item x k) j }
+        {
+            if j < 3 {
+                x[j] + dt * x[j + 3] + 0.0
+            } else {
+                x[j] + 0.0
+            }
+        },
+    )
 }
 
 // m times the transpose of F, read off.
 fn glide_columns(m: [[f64; 6]; 6], dt: f64) -> [[f64; 6]; 6]
     ensures { result ≡ glided_columns 6 3 dt m }
 {
-    [
-        glide_row(m[0], dt),
-        glide_row(m[1], dt),
-        glide_row(m[2], dt),
-        glide_row(m[3], dt),
-        glide_row(m[4], dt),
-        glide_row(m[5], dt),
-    ]
+    from_fn(
+        |i| -> [f64; 6]
+            requires { i < 6 }
+            ensures { result ≡ glided_row 6 3 dt (row m i) }
+        { glide_row(m[i], dt) },
+    )
 }
 
 // Whether the products can be read off p and m, which is F P read off.

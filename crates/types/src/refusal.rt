@@ -1,10 +1,7 @@
 // Why a call on the tracker is refused, and what the refusals of its parts are among them.
 ghost use Rattle.std.specs.Prelude.{◌≡◌};
-ghost use Rattle.math.specs.Refusing as math;
-ghost use Rattle.assignment.specs.Replies as assignment;
-ghost use Rattle.settings.specs.Settings as settings;
 ghost use Rattle.types.specs.declared.refusal.Refusal.TheVariants.{InvalidConfig};
-ghost use Rattle.types.specs.Refusals.{number_of, reply_of, settings_reply_of, of_matrix, of_assignment};
+ghost use Rattle.types.specs.Refusals.{number_of, of_matrix, of_assignment};
 
 use assignment::AssignmentError;
 use settings::bad_field::BadField;
@@ -81,32 +78,5 @@ impl From<Refusal> for u32 {
             Refusal::TooMany => 11,
             Refusal::InvalidPrior => 12,
         }
-    }
-}
-
-// A refusal of matrices and filters.
-pub fn of_matrix(why: math::linalg::Refusal) -> Refusal
-    ensures { number_of result ≡ math.number_of why }
-{
-    Refusal::from(why)
-}
-
-// What the assignment answers, apart from its pairs.
-pub fn of_assignment(answer: Result<(), AssignmentError>) -> Result<(), Refusal>
-    ensures { reply_of result ≡ assignment.reply_of answer tt }
-{
-    match answer {
-        Ok(()) => Ok(()),
-        Err(why) => Err(Refusal::from(why)),
-    }
-}
-
-// What the check of the settings answers.
-pub fn of_settings(answer: Result<(), BadField>) -> Result<(), Refusal>
-    ensures { settings_reply_of result ≡ settings.reply_of answer }
-{
-    match answer {
-        Ok(()) => Ok(()),
-        Err(field) => Err(Refusal::InvalidConfig(field)),
     }
 }
