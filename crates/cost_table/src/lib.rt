@@ -9,12 +9,13 @@ ghost use Rattle.types.specs.Refusals.{reply_of};
 ghost use Rattle.calls.specs.Pairing.{cost_of};
 ghost use Rattle.pairing.specs.Laid.{Laid};
 ghost use Rattle.pairing.specs.Rows.{price_reply};
-ghost use Rattle.sightings.specs.Sights.{sights_in, Kin};
+ghost use Rattle.sightings.specs.Laid.{sights_of, Sound};
 ghost use Rattle.cost_table.specs.Table.{reply_of_entry, priced_by, Tabled};
 
 use detections::Detection;
 use detections::pairs::{PairConfig, Rule, Ruling, Target};
 use pairing::Row;
+use sightings::Sightings;
 use types::refusal::Refusal;
 use types::{MAX_OBSERVATIONS, MAX_TRACKS};
 
@@ -32,11 +33,7 @@ fn cost_of(ruling: Ruling) -> f64
 fn is_due(class: Option<u32>, seen: Option<u32>, held: usize, k: usize) -> bool
     ensures { result ≡ false → compatible class seen ≡ true → held ≡ k }
 {
-    if detections::pairs::classes_compatible(class, seen) {
-        if held == k { false } else { true }
-    } else {
-        false
-    }
+    detections::pairs::classes_compatible(class, seen) && held != k
 }
 
 // The cost of the pair of a track and a detection that is seen at z with a class, by the factor of S.
@@ -58,72 +55,51 @@ fn price(
     Ok(cost_of(ruling))
 }
 
-// The costs of one track's pairs with the first m detections, from `at` on. The first refusal decides.
+// The costs of one track's pairs with the detections that are laid out, from `at` on. The first refusal decides.
 fn price_row(
     t: Target,
-    positions: &[[f64; 3]; 64],
-    noises: &[[f64; 9]; 64],
-    labels: &[u32; 64],
-    labelled: &[bool; 64],
-    kin: &[usize; 64],
-    m: usize,
+    laid: &Sightings,
     rule: PairConfig,
     costs: &mut [f64; 4096],
     at: usize,
 ) -> Result<(), Refusal>
-    requires { (m ≤ 64) × (at + m ≤ 4096) × Kin noises.now m kin.now }
-    ensures { Laid (price_reply rule t) (sights_in positions.now noises.now labels.now labelled.now m) at (reply_of result) costs.old costs.new }
+    requires { Sound laid.now × (at + laid.now.count ≤ 4096) }
+    ensures { Laid (price_reply rule t) (sights_of laid.now) at (reply_of result) costs.old costs.new }
 {
     let expected = t.expected;
     let class = t.class_label;
     let mut held: usize = 64;
     let mut factor = None;
-    for j in 0..m {
-        let seen = sightings::class_at(labels, labelled, j);
-        let k = kin[j];
+    for j in 0..laid.count {
+        let seen = laid.class_at(j);
+        let k = laid.kin[j];
         if is_due(class, seen, held, k) {
-            let noise = noises[j];
+            let noise = laid.noises[j];
             factor = filter::factor_from(expected, noise);
             held = k;
         }
-        let z = positions[j];
+        let z = laid.positions[j];
         let cost = price(t, factor, z, seen, rule)?;
         costs[at + j] = cost;
     }
     Ok(())
 }
 
-// The costs of the first n rows, a row of m for each. The first refusal decides, in track order and then in detection order.
+// The costs of the first n rows, a row of them for each. The first refusal decides, in track order and then in detection order.
 fn price_rows(
     rows: [Row; MAX_TRACKS],
     n: usize,
-    positions: &[[f64; 3]; 64],
-    noises: &[[f64; 9]; 64],
-    labels: &[u32; 64],
-    labelled: &[bool; 64],
-    kin: &[usize; 64],
-    m: usize,
+    laid: &Sightings,
     rule: PairConfig,
     costs: &mut [f64; 4096],
 ) -> Result<(), Refusal>
-    requires { (n ≤ 64) × (m ≤ 64) × Kin noises.now m kin.now }
-    ensures { Tabled rule (take n rows) (sights_in positions.now noises.now labels.now labelled.now m) (reply_of result) costs.old costs.new }
+    requires { (n ≤ 64) × Sound laid.now }
+    ensures { Tabled rule (take n rows) (sights_of laid.now) (reply_of result) costs.old costs.new }
 {
     for i in 0..n {
         let row = rows[i];
         let t = row.target;
-        price_row(
-            t,
-            positions,
-            noises,
-            labels,
-            labelled,
-            kin,
-            m,
-            rule,
-            costs,
-            i * m,
-        )?;
+        price_row(t, laid, rule, costs, i * laid.count)?;
     }
     Ok(())
 }
@@ -141,21 +117,7 @@ pub fn price_table(
     requires { (n ≤ 64) × (m ≤ 64) }
     ensures { Tabled rule (take n rows) (take m seen) (reply_of result) costs.old costs.new }
 {
-    let mut positions = [[0.0f64; 3]; 64];
-    let mut noises = [[0.0f64; 9]; 64];
-    let mut labels = [0u32; 64];
-    let mut labelled = [false; 64];
-    let mut kin = [0usize; 64];
-    sightings::lay_detections(
-        seen,
-        m,
-        &mut positions,
-        &mut noises,
-        &mut labels,
-        &mut labelled,
-    );
-    sightings::find_kin(&noises, m, &mut kin);
-    price_rows(
-        rows, n, &positions, &noises, &labels, &labelled, &kin, m, rule, costs,
-    )
+    let mut laid = Sightings::new();
+    laid.lay_detections(seen, m);
+    price_rows(rows, n, &laid, rule, costs)
 }

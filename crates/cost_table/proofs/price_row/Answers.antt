@@ -4,7 +4,7 @@ use Rattle.types.specs.declared.refusal.Refusal.{Refusal}
 use Rattle.std.specs.Prelude.{Err, Float, Ok, Option, Result}
 use Rattle.cholesky.specs.declared.Lower.{Lower}
 use mathlib.Core.Path.{◌≡◌, refl, sym, ap, ◌∙◌, subst}
-use mathlib.Core.Bool.{Bool, true}
+use mathlib.Core.Bool.{true}
 use mathlib.Core.List.{List, []}
 use Prim.Native.Nat.{ℕ, ◌<◌}
 use lib.ListN.{get_or}
@@ -19,7 +19,9 @@ use Rattle.detections.specs.declared.pairs.Target.{Target}
 use Rattle.detections.specs.Pairs.{compatible}
 use Rattle.pairing.specs.Rows.{price_reply}
 use Rattle.pairing.proofs.Laying.{laying_none, laying_more, laying_stops, laying_all}
-use Rattle.sightings.specs.Sights.{sight, sights_in, class_at}
+use Rattle.sightings.specs.declared.Sightings.{Sightings}
+use Rattle.sightings.specs.Laid.{sights_of}
+use Rattle.sightings.specs.Sights.{sight, class_at}
 use Rattle.sightings.proofs.Sights.{sights_long, sights_at}
 use Rattle.cost_table.specs.Table.{reply_of_entry, priced_by}
 use Rattle.cost_table.proofs.Pricing.{laid_all, priced_new, priced_held}
@@ -27,7 +29,7 @@ use Rattle.cost_table.proofs.price_row.Goals as goal
 use Rattle.cost_table.proofs.price_row.Goals.{then-is_due, else-is_due}
 
 pub loop-j-init : goal.loop-j-init
-loop-j-init c = (omega arith, (λ h. absurd (never h)), laying_none _ _ _ _)
+loop-j-init c = (omega arith, refl, (λ h. absurd (never h)), laying_none _ _ _ _)
   where
     never : 64 < 64 → ⊥
     never h = omega arith
@@ -52,13 +54,13 @@ module _ (rule : PairConfig) (t : Target) (noises : List Vector) (j k : ℕ) (se
       (s, (λ z. priced_held rule t z seen noises k j same f held s few (λ e. q ∙ due e)))
 
 -- the price of the detection that was read
-price_lem : (rule : PairConfig) (t : Target) (positions noises : List Vector) (labels : List ℕ) (labelled : List Bool) (m j : ℕ) (seen : Option ℕ) (f : Reply Matrix) (r : Result Float Refusal) → j < m → seen ≡ class_at labels labelled j
-    → reply_of_entry r ≡ priced_by rule t (get_or positions j []) seen f → ((z : Vector) → priced_by rule t z seen f ≡ price_reply rule t (sight z (get_or noises j []) seen))
-    → price_reply rule t (get_or (sights_in positions noises labels labelled m) j no_detection) ≡ reply_of_entry r
-price_lem rule t positions noises labels labelled m j seen f r h e q serves =
+price_lem : (rule : PairConfig) (t : Target) (laid : Sightings) (j : ℕ) (seen : Option ℕ) (f : Reply Matrix) (r : Result Float Refusal) → j < laid.count → seen ≡ class_at laid.labels laid.labelled j
+    → reply_of_entry r ≡ priced_by rule t (get_or laid.positions j []) seen f → ((z : Vector) → priced_by rule t z seen f ≡ price_reply rule t (sight z (get_or laid.noises j []) seen))
+    → price_reply rule t (get_or (sights_of laid) j no_detection) ≡ reply_of_entry r
+price_lem rule t laid j seen f r h e q serves =
     ap (price_reply rule t)
-    (sights_at positions noises labels labelled m j no_detection h
-    ∙ ap (sight (get_or positions j []) (get_or noises j [])) (sym e))
+    (sights_at laid j no_detection h
+    ∙ ap (sight (get_or laid.positions j []) (get_or laid.noises j [])) (sym e))
     ∙ sym (q ∙ serves _)
 
 pub loop-j-preserved : goal.loop-j-preserved
@@ -66,17 +68,18 @@ loop-j-preserved c =
     let a = c.args in
     let t = c.loop-j-test.true in
     let v = c.loop-j.invariant in
-    let same = c.requires.2.same c.loop-j.j t in
-    let few : get_or a.kin.now c.loop-j.j 0 < 64 = omega (arith, t, c.requires.0, c.requires.2.before c.loop-j.j t) in
-    let s : Serves a.rule a.t a.noises.now c.loop-j.j c.class_at-seen.result c.if-is_due.factor c.if-is_due.held =
+    let same = c.requires.0.kin.same c.loop-j.j t in
+    let few : get_or a.laid.now.kin c.loop-j.j 0 < 64 = omega (arith, t, v.1, c.requires.0.few, c.requires.0.kin.before c.loop-j.j t) in
+    let s : Serves a.rule a.t a.laid.now.noises c.loop-j.j c.class_at-seen.result c.if-is_due.factor c.if-is_due.held =
     elim c.if-is_due.branch [
-      | then-is_due w ↦ new_serves a.rule a.t a.noises.now c.loop-j.j (get_or a.kin.now c.loop-j.j 0) c.class_at-seen.result same _ _ w.held-is (ap reply_of_factor w.factor-is ∙ w.factor_from-factor.ensures)
-      | else-is_due w ↦ held_serves a.rule a.t a.noises.now c.loop-j.j (get_or a.kin.now c.loop-j.j 0) c.class_at-seen.result same _ _ _ _ w.held-is w.factor-is v.1 few (c.is_due.ensures w.if-is_due.false)
+      | then-is_due w ↦ new_serves a.rule a.t a.laid.now.noises c.loop-j.j (get_or a.laid.now.kin c.loop-j.j 0) c.class_at-seen.result same _ _ w.held-is (ap reply_of_factor w.factor-is ∙ w.factor_from-factor.ensures)
+      | else-is_due w ↦ held_serves a.rule a.t a.laid.now.noises c.loop-j.j (get_or a.laid.now.kin c.loop-j.j 0) c.class_at-seen.result same _ _ _ _ w.held-is w.factor-is v.2 few (c.is_due.ensures w.if-is_due.false)
     ] in (
       omega arith,
+      v.1,
       s.0,
-      laying_more _ _ _ _ c.loop-j.j _ _ no_detection _ v.2 (omega (arith, t, sights_long a.positions.now a.noises.now a.labels.now a.labelled.now a.m)) refl
-          (price_lem a.rule a.t a.positions.now a.noises.now a.labels.now a.labelled.now a.m c.loop-j.j _ _ (Ok c.in_ok-cost.cost) t c.class_at-seen.ensures c.in_ok-cost.ensures s.1),
+      laying_more _ _ _ _ c.loop-j.j _ _ no_detection _ v.3 (omega (arith, t, v.1, sights_long a.laid.now)) refl
+          (price_lem a.rule a.t a.laid.now c.loop-j.j _ _ (Ok c.in_ok-cost.cost) (omega (arith, t, v.1)) c.class_at-seen.ensures c.in_ok-cost.ensures s.1),
     )
 
 pub returns-in_err-cost : goal.returns-in_err-cost
@@ -84,21 +87,21 @@ returns-in_err-cost c =
     let a = c.args in
     let t = c.loop-j-test.true in
     let v = c.loop-j.invariant in
-    let same = c.requires.2.same c.loop-j.j t in
-    let few : get_or a.kin.now c.loop-j.j 0 < 64 = omega (arith, t, c.requires.0, c.requires.2.before c.loop-j.j t) in
-    let s : Serves a.rule a.t a.noises.now c.loop-j.j c.class_at-seen.result c.if-is_due.factor c.if-is_due.held =
+    let same = c.requires.0.kin.same c.loop-j.j t in
+    let few : get_or a.laid.now.kin c.loop-j.j 0 < 64 = omega (arith, t, v.1, c.requires.0.few, c.requires.0.kin.before c.loop-j.j t) in
+    let s : Serves a.rule a.t a.laid.now.noises c.loop-j.j c.class_at-seen.result c.if-is_due.factor c.if-is_due.held =
     elim c.if-is_due.branch [
-      | then-is_due w ↦ new_serves a.rule a.t a.noises.now c.loop-j.j (get_or a.kin.now c.loop-j.j 0) c.class_at-seen.result same _ _ w.held-is (ap reply_of_factor w.factor-is ∙ w.factor_from-factor.ensures)
-      | else-is_due w ↦ held_serves a.rule a.t a.noises.now c.loop-j.j (get_or a.kin.now c.loop-j.j 0) c.class_at-seen.result same _ _ _ _ w.held-is w.factor-is v.1 few (c.is_due.ensures w.if-is_due.false)
+      | then-is_due w ↦ new_serves a.rule a.t a.laid.now.noises c.loop-j.j (get_or a.laid.now.kin c.loop-j.j 0) c.class_at-seen.result same _ _ w.held-is (ap reply_of_factor w.factor-is ∙ w.factor_from-factor.ensures)
+      | else-is_due w ↦ held_serves a.rule a.t a.laid.now.noises c.loop-j.j (get_or a.laid.now.kin c.loop-j.j 0) c.class_at-seen.result same _ _ _ _ w.held-is w.factor-is v.2 few (c.is_due.ensures w.if-is_due.false)
     ] in
-    let long = sights_long a.positions.now a.noises.now a.labels.now a.labelled.now a.m in
+    let long = sights_long a.laid.now in
     let p = err_from_is_err_and c.from_residual.result c.from_residual.ensures.1 in
     rw (p.1, p.2)
-    (laid_all _ _ a.m _ _ _ _ long
-    (laying_stops _ _ _ _ a.m c.loop-j.j _ no_detection _ v.2 t (omega (arith, long))
-    (price_lem a.rule a.t a.positions.now a.noises.now a.labels.now a.labelled.now a.m c.loop-j.j _ _ (Err c.in_err-cost.field-0.0) t c.class_at-seen.ensures c.in_err-cost.ensures s.1)))
+    (laid_all _ _ a.laid.now.count _ _ _ _ long
+    (laying_stops _ _ _ _ a.laid.now.count c.loop-j.j _ no_detection _ v.3 (omega (arith, t, v.1)) (omega (arith, long))
+    (price_lem a.rule a.t a.laid.now c.loop-j.j _ _ (Err c.in_err-cost.field-0.0) (omega (arith, t, v.1)) c.class_at-seen.ensures c.in_err-cost.ensures s.1)))
 
 pub returns : goal.returns
 returns c =
     let a = c.args in
-    laid_all _ _ a.m _ _ _ _ (sights_long a.positions.now a.noises.now a.labels.now a.labelled.now a.m) (laying_all _ _ _ _ a.m c.loop-j.j _ (omega (arith, c.loop-j-test.false, c.loop-j.invariant.0)) c.loop-j.invariant.2)
+    laid_all _ _ a.laid.now.count _ _ _ _ (sights_long a.laid.now) (laying_all _ _ _ _ a.laid.now.count c.loop-j.j _ (omega (arith, c.loop-j-test.false, c.loop-j.invariant.0, c.loop-j.invariant.1)) c.loop-j.invariant.3)

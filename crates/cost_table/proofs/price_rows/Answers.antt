@@ -1,16 +1,14 @@
 -- `cost_table::price_rows` meets its contract: the rows of the first i tracks are laid in front. Assumes nothing.
 use Rattle.std.proofs.lemmas.Result.{err_from_is_err_and}
 use mathlib.Core.Path.{◌≡◌, sym, ap}
-use mathlib.Core.Bool.{Bool}
-use mathlib.Core.List.{List}
 use Prim.Native.Nat.{ℕ, ◌*◌}
 use lib.ListN.{length}
 use native.Mathlib.Omega.{arith}
 use borrow.Author.Rules.{rules}
 use Rattle.lists.proofs.Laying.{length_mapped}
-use Rattle.matrix.specs.Matrix.{Vector}
 use Rattle.pairing.proofs.Rows.{no_row}
-use Rattle.sightings.specs.Sights.{sights_in}
+use Rattle.sightings.specs.declared.Sightings.{Sightings}
+use Rattle.sightings.specs.Laid.{sights_of}
 use Rattle.sightings.proofs.Sights.{sights_long}
 use Rattle.cost_table.proofs.Tabling.{tabling_none, table_more, table_stops, table_all}
 use Rattle.cost_table.proofs.price_rows.Goals as goal
@@ -19,15 +17,15 @@ pub loop-i-init : goal.loop-i-init
 loop-i-init c = (omega arith, search (rules, length_mapped), tabling_none _ _ _ _)
 
 -- a row has a place for each detection
-start_of : (positions noises : List Vector) (labels : List ℕ) (labelled : List Bool) (m i : ℕ) → i * m ≡ i * length (sights_in positions noises labels labelled m)
-start_of positions noises labels labelled m i = ap (λ (k : ℕ). i * k) (sym (sights_long positions noises labels labelled m))
+start_of : (laid : Sightings) (i : ℕ) → i * laid.count ≡ i * length (sights_of laid)
+start_of laid i = ap (λ (k : ℕ). i * k) (sym (sights_long laid))
 
 pub loop-i-preserved : goal.loop-i-preserved
 loop-i-preserved c =
     let a = c.args in
     let v = c.loop-i.invariant in
     let h = c.loop-i-test.true in
-    (omega arith, v.1, table_more _ _ _ _ c.loop-i.i _ _ _ no_row v.2 (start_of a.positions.now a.noises.now a.labels.now a.labelled.now a.m c.loop-i.i) c.price_row.result (omega (arith, h, v.1, c.requires.0)) c.in_ok-price_row.was c.price_row.ensures)
+    (omega arith, v.1, table_more _ _ _ _ c.loop-i.i _ _ _ no_row v.2 (start_of a.laid.now c.loop-i.i) c.price_row.result (omega (arith, h, v.1, c.requires.0)) c.in_ok-price_row.was c.price_row.ensures)
 
 pub returns-in_err-price_row : goal.returns-in_err-price_row
 returns-in_err-price_row c =
@@ -36,7 +34,7 @@ returns-in_err-price_row c =
     let h = c.loop-i-test.true in
     let p = err_from_is_err_and c.from_residual.result c.from_residual.ensures.1 in
     rw (p.1, p.2)
-    (table_stops _ _ _ _ c.loop-i.i _ _ _ no_row v.2 (start_of a.positions.now a.noises.now a.labels.now a.labelled.now a.m c.loop-i.i) a.n c.price_row.result _ h (omega (arith, v.1, c.requires.0)) c.in_err-price_row.was c.price_row.ensures)
+    (table_stops _ _ _ _ c.loop-i.i _ _ _ no_row v.2 (start_of a.laid.now c.loop-i.i) a.n c.price_row.result _ h (omega (arith, v.1, c.requires.0)) c.in_err-price_row.was c.price_row.ensures)
 
 pub returns : goal.returns
 returns c = table_all _ _ _ _ c.args.n c.loop-i.i _ (omega (arith, c.loop-i-test.false, c.loop-i.invariant.0)) c.loop-i.invariant.2

@@ -1,8 +1,0 @@
-use mathlib.Core.Path.{◌≡◌}
-use Prim.Native.Nat.{◌≤◌}
-use lib.ListN.{length}
-use Rattle.sightings.proofs.Sights.{Sighted}
-use Rattle.sightings.proofs.lay_detections.Given as goal
-
-abbrev pub invariant-loop-j : goal.invariant-loop-j
-invariant-loop-j l = (l.j ≤ l.m) × (length l.observations ≡ 64) × Sighted l.observations l.j l.positions l.noises l.labels l.labelled
