@@ -19,10 +19,7 @@ pub fn root_or_zero(p: f64) -> f64
     ensures { result ≡ root_in (pivot_root p) }
 {
     if p > 0.0 {
-        match square_root::root(p) {
-            Some(root) => root,
-            None => 0.0,
-        }
+        square_root::root(p).unwrap_or(0.0)
     } else {
         0.0
     }

@@ -20,10 +20,7 @@ pub fn flagged<T: Copy>(has: u32, value: T) -> Option<T>
 pub fn flag<T: Copy>(o: Option<T>) -> u32
     ensures { result ≡ flag o }
 {
-    match o {
-        None => 0,
-        Some(_) => 1,
-    }
+    u32::from(o.is_some())
 }
 
 pub fn prior_of(has: u32, label: u32, confidence: f64) -> Option<ClassPrior>
@@ -35,19 +32,13 @@ pub fn prior_of(has: u32, label: u32, confidence: f64) -> Option<ClassPrior>
 pub fn the_prior(o: Option<ClassPrior>) -> u32
     ensures { result ≡ the_prior o }
 {
-    match o {
-        None => 0,
-        Some(p) => p.label,
-    }
+    o.map_or(0, |p| p.label)
 }
 
 pub fn the_confidence(o: Option<ClassPrior>) -> f64
     ensures { result ≡ the_confidence o }
 {
-    match o {
-        None => 0.0,
-        Some(p) => p.confidence,
-    }
+    o.map_or(0.0, |p| p.confidence)
 }
 
 pub fn mark_of(n: u32) -> bool
@@ -59,7 +50,7 @@ pub fn mark_of(n: u32) -> bool
 pub fn mark_to(m: bool) -> u32
     ensures { result ≡ mark_to m }
 {
-    if m { 1 } else { 0 }
+    u32::from(m)
 }
 
 // Tentative is 0, Confirmed 1, Lost 2; Deleted is 3 and what else a C program writes there.

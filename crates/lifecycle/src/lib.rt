@@ -62,18 +62,13 @@ impl TrackLifecycle {
 }
 
 // The count after an observation at `time`.
+#[tactic(auto, unfolding(crate::specs::Lifecycle::counted_of))]
 fn counted(last: Option<i64>, time: i64, count: u32) -> u32
     ensures { result ≡ counted_of last time count }
 {
     match last {
-        None => number::time::next_count(count),
-        Some(t) => {
-            if t == time {
-                count
-            } else {
-                number::time::next_count(count)
-            }
-        }
+        Some(t) if t == time => count,
+        _ => number::time::next_count(count),
     }
 }
 
@@ -134,11 +129,7 @@ pub fn credited(l: TrackLifecycle, count: u32, config: LifecycleConfig) -> Track
 fn reference(l: TrackLifecycle) -> i64
     ensures { result ≡ reference_of l }
 {
-    let seen = l.last_observation;
-    match seen {
-        None => l.created_at,
-        Some(t) => t,
-    }
+    l.last_observation.unwrap_or(l.created_at)
 }
 
 // The state after every step that is due at this age.

@@ -18,13 +18,11 @@ pub fn checked_duration_since(now: i64, earlier: i64) -> Option<i64>
 }
 
 // How long ago `since` was at `now`; 0 where it lies ahead or the difference overflows.
+#[tactic(auto, unfolding(crate::specs::Time::age_of))]
 pub fn age(now: i64, since: i64) -> i64
     ensures { result ≡ age_of now since }
 {
-    match checked_duration_since(now, since) {
-        Some(d) => d.max(0),
-        None => 0,
-    }
+    checked_duration_since(now, since).map_or(0, |d| d.max(0))
 }
 
 // One more, and the largest count stays as it is.
