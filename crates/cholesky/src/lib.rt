@@ -39,8 +39,8 @@ fn remainder<const N: usize>(a: &[[f64; N]; N], l: &[[f64; N]; N], i: usize, j: 
     ensures { result ≡ remainder a.now l.now i j }
 {
     let mut x = a[i][j];
-    for k in 0..j {
-        x -= l[k][i] * l[k][j];
+    for column in &l[..j] {
+        x -= column[i] * column[j];
     }
     x
 }

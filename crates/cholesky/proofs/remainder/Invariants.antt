@@ -4,5 +4,5 @@ use Rattle.matrix.specs.Matrix.{entry}
 use Rattle.cholesky.specs.Cholesky.{less_each}
 use Rattle.cholesky.proofs.remainder.Given as goal
 
-abbrev pub invariant-loop-k : goal.invariant-loop-k
-invariant-loop-k g l = l.x ≡ less_each l.k (λ k. mul binary64 (entry l.l k l.i) (entry l.l k l.j)) l.initial.x
+abbrev pub invariant-loop-column : goal.invariant-loop-column
+invariant-loop-column g l = l.x ≡ less_each l.column-index (λ k. mul binary64 (entry l.l k l.i) (entry l.l k l.j)) l.initial.x
