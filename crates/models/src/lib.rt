@@ -7,6 +7,7 @@ ghost use Rattle.std.specs.Float.Ieee.{mul};
 ghost use Rattle.models.specs.Models.{transition, noise, isotropic};
 
 // The transition over dt seconds.
+#[tactic(auto, unfolding(crate::specs::Models::transition))]
 pub fn cv_f6(dt: f64) -> [[f64; 6]; 6]
     ensures { result ≡ transition 3 dt }
 {
@@ -21,6 +22,7 @@ pub fn cv_f6(dt: f64) -> [[f64; 6]; 6]
 }
 
 // The noise of a prediction over dt seconds, for the acceleration density q.
+#[tactic(auto, unfolding(crate::specs::Models::noise))]
 pub fn cv_q6(dt: f64, q: f64) -> [[f64; 6]; 6]
     ensures { result ≡ noise 3 dt q }
 {
@@ -40,6 +42,7 @@ pub fn cv_q6(dt: f64, q: f64) -> [[f64; 6]; 6]
 }
 
 // The covariance of a velocity measured with the deviation std.
+#[tactic(auto, unfolding(crate::specs::Models::isotropic))]
 pub fn velocity_r2(std: f64) -> [[f64; 2]; 2]
     ensures { result ≡ isotropic 2 (mul binary64 std std) }
 {

@@ -12,6 +12,7 @@ ghost use Rattle.selected.specs.Units.{unit_at, less_from, rest_row};
 use std::array::from_fn;
 
 // Row i of the identity less the row x of a gain times H: read off, and worked out.
+#[tactic(auto, unfolding(selected::specs::Units::rest_row))]
 fn row_read<const N: usize, const FROM: usize>(x: [f64; N], i: usize) -> [f64; 6]
     requires { N + FROM ≤ 6 }
     ensures { result ≡ rest_row 6 N FROM x.entry i }

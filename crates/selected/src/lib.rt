@@ -40,6 +40,7 @@ fn seen_in_column(p: [[f64; 6]; 6], k: usize, j: usize) -> f64
 }
 
 // Row k of the identity times p.
+#[tactic(auto, unfolding(matrix::specs::Matrix::row_times, crate::specs::Units::unit_vector))]
 pub fn row_seen(p: [[f64; 6]; 6], k: usize) -> [f64; 6]
     ensures { result ≡ row_times 6 6 (unit_vector 6 k) p }
 {
@@ -66,6 +67,7 @@ pub fn is_above(p: [[f64; 6]; 6]) -> bool
 }
 
 // Whether, beside that, the sum of all entries is finite: then the products with H can be read off.
+#[tactic(auto, unfolding(crate::specs::Units::is_plain))]
 pub fn is_plain(p: [[f64; 6]; 6]) -> bool
     ensures { result ≡ is_plain 6 p }
 {
