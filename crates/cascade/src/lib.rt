@@ -27,16 +27,6 @@ fn row_name(takes_part: bool) -> usize
     if takes_part { 0 } else { 1 }
 }
 
-// The names of the first n rows.
-fn name_rows(part: &[bool; 64], n: usize, names: &mut [usize; 64])
-    requires { (n ≤ 64) × (length names.old ≡ 64) }
-    ensures { Pointwise (λ i. row_name (get_or part.now i false)) n names.old names.new }
-{
-    for i in 0..n {
-        names[i] = row_name(part[i]);
-    }
-}
-
 // The name of a column: 0 for one that no row has taken yet, 1 for another.
 fn column_name(taker: usize) -> usize
     ensures { result ≡ column_name taker }
@@ -44,45 +34,29 @@ fn column_name(taker: usize) -> usize
     if taker < 64 { 1 } else { 0 }
 }
 
-// The names of the first m columns.
-fn name_columns(takers: &[usize; 64], m: usize, names: &mut [usize; 64])
-    requires { (m ≤ 64) × (length names.old ≡ 64) }
-    ensures { Pointwise (λ j. column_name (get_or takers.now j 0)) m names.old names.new }
+// The row of the whole table for the row a of the picked one, whose rows are `members`; 64 for none. No row but those of the table is ever asked for: 0 stands there
+// as in the definition.
+fn member(a: usize, members: &[usize]) -> usize
+    ensures { result ≡ member_of members.now (length members.now) a }
 {
-    for j in 0..m {
-        names[j] = column_name(takers[j]);
+    match members.get(a) {
+        Some(i) => *i,
+        None if a < 64 => 0,
+        None => 64,
     }
-}
-
-// The row of the whole table for the row a of the picked one, which has r rows; 64 for none. No row but those of the table is ever asked for: 0 stands there as in
-// the definition.
-fn member(a: usize, r: usize, members: &[usize; 64]) -> usize
-    requires { r ≤ 64 }
-    ensures { result ≡ member_of members.now r a }
-{
-    if a < r {
-        return members[a];
-    }
-    if a < 64 { 0 } else { 64 }
 }
 
 // Gives each column of the name 0 the row that `picked` has for it, in order.
-fn scatter(
-    names: &[usize; 64],
-    m: usize,
-    picked: &[usize; 64],
-    r: usize,
-    members: &[usize; 64],
-    takers: &mut [usize; 64],
-)
-    requires { (m ≤ 64) × (r ≤ 64) × (length takers.old ≡ 64) }
-    ensures { Pointwise (scattered_at names.now picked.now r members.now takers.old) m takers.old takers.new }
+fn scatter(names: &[usize], picked: &[usize; 64], members: &[usize], takers: &mut [usize; 64])
+    requires { length names.now ≤ 64 }
+    ensures { Pointwise (scattered_at names.now picked.now (length members.now) members.now takers.old) (length names.now) takers.old takers.new }
 {
     let mut k: usize = 0;
-    for j in 0..m {
-        if names[j] == 0 {
-            takers[j] = member(picked[k], r, members);
+    for (j, name) in names.iter().enumerate() {
+        if *name == 0 {
+            takers[j] = member(picked[k], members);
             k += 1;
+            continue;
         }
     }
 }
@@ -110,18 +84,16 @@ fn pair_stage(
     part: &[bool; 64],
     takers: &mut [usize; 64],
 ) -> Result<(), Refusal>
-    requires { Whole table × (length part.now ≡ 64) × (length takers.old ≡ 64) }
+    requires { Whole table }
     ensures { StageAnswer table.entry.costs.now table.entry.rows table.entry.columns gate part.now (reply_of result) takers.old takers.new }
 {
     let m = table.columns;
-    let mut rows = [0usize; 64];
-    let mut columns = [0usize; 64];
+    let rows = part.map(row_name);
+    let columns = takers.map(column_name);
     let mut members = [0usize; 64];
     let mut picked = [64usize; 64];
     let mut own = [0.0f64; 4096];
-    name_rows(part, table.rows, &mut rows);
-    name_columns(takers, m, &mut columns);
-    let c = assignment::table::count_named(&columns, m, 0);
+    let c = assignment::table::count_named(&columns[..m], 0);
     let r = assignment::table::gather(
         table.costs,
         table.rows,
@@ -133,7 +105,7 @@ fn pair_stage(
         &mut members,
     );
     solve_front(&own, r, c, gate, &mut picked)?;
-    scatter(&columns, m, &picked, r, &members, takers);
+    scatter(&columns[..m], &picked, &members[..r], takers);
     Ok(())
 }
 
@@ -145,7 +117,7 @@ pub fn pair_cascade(
     recent: &[bool; 64],
     takers: &mut [usize; 64],
 ) -> Result<(), Refusal>
-    requires { Whole table × (length recent.now ≡ 64) × (takers.old ≡ replicate 64 64) × (length takers.old ≡ 64) }
+    requires { Whole table × (takers.old ≡ replicate 64 64) }
     ensures { CascadeAnswer table.entry.costs.now table.entry.rows table.entry.columns gate recent.now (reply_of result) takers.old takers.new }
 {
     pair_stage(table, gate, recent, takers)?;
