@@ -2,4 +2,3 @@ pub mod Nearing
 pub mod Listing
 pub mod Aging
 pub mod Seeing
-pub mod Copying

@@ -4,9 +4,10 @@ use mathlib.Core.List.{List, [], ◌∷◌, ◌++◌}
 use Prim.Native.Nat.{ℕ, min, ◌+◌, ◌-◌, ◌≤◌, ◌<◌}
 use native.Mathlib.Omega.{arith}
 use borrow.Author.Tests.{lt-ltb}
-use lib.ListN.{length, take, set, get_or, length-take}
+use lib.ListN.{length, take, drop, set, get_or, length-take}
 use Rattle.number.specs.Reply.{Reply, refused, given}
 use Rattle.number.proofs.Replies.{given_same, never_given}
+use Rattle.lists.specs.Lay.{lay}
 use Rattle.lists.specs.Table.{table, pushed, swap_remove}
 use Rattle.lists.proofs.Laying.{take_lay}
 use Rattle.lists.proofs.Tables.{rows, replaced, swapped, pushed_room, pushed_fits, unchanged}
@@ -48,6 +49,14 @@ module _ (c : Candidates) (n : ℕ) (size : length c.items ≡ 64) where
     pub same_at : held (table c.items n) ≡ over c (list_of c)
     unfolding list_of
     same_at = ap held (unchanged c.items 64 c.count n size taken (λ l. l) refl)
+
+-- the first n places of others, over those of c
+pub laid_at : (c kept : Candidates) (n : ℕ) (m : List BirthCandidate) → length kept.items ≡ 64 → n ≡ length (list_of kept) → m ≡ take n kept.items
+    → record { items = m ++ drop n c.items; count = n } ≡ over c (list_of kept)
+unfolding lay
+laid_at c kept n m size long e =
+    let f : m ≡ list_of kept = e ∙ sym (front kept n size long) in
+    (λ q. record { items = f q ++ drop (long q) c.items; count = long q })
 
 -- ---- what is answered, as the list that is left
 

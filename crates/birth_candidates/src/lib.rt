@@ -85,12 +85,10 @@ impl Candidates {
     {
         let mut items = self.items;
         let mut kept: usize = 0;
-        let n = self.len();
-        for i in 0..n {
-            let x = items[i];
-            let stays = judge(x, now, timeout)?;
+        for x in &self.items[..self.len()] {
+            let stays = judge(*x, now, timeout)?;
             if stays {
-                items[kept] = x;
+                items[kept] = *x;
                 kept += 1;
             }
         }
@@ -108,11 +106,9 @@ impl Candidates {
     fn nearest(&self, d: Detection, time: i64, radius: f64) -> Option<Near>
         ensures { result ≡ near_of (nearest_from radius time d 0 None (list_of self.now)) }
     {
-        let n = self.len();
         let mut best = None;
-        for i in 0..n {
-            let x = self.items[i];
-            best = nearer(best, i, x, d, time, radius);
+        for (i, x) in self.items[..self.len()].iter().enumerate() {
+            best = nearer(best, i, *x, d, time, radius);
         }
         best
     }
@@ -225,9 +221,7 @@ impl Candidates {
     {
         let mut items = self.items;
         let n = kept.len();
-        for i in 0..n {
-            items[i] = kept.items[i];
-        }
+        items[..n].copy_from_slice(&kept.items[..n]);
         Candidates { items, count: n }
     }
 }

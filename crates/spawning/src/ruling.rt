@@ -74,10 +74,9 @@ pub fn confirmed_places(t: Cartesian3DTracker) -> Places
     let nowhere = Spot { position: [0.0; 3] };
     let mut items = [nowhere; MAX_TRACKS];
     let mut count: usize = 0;
-    for i in 0..n {
-        let x = t.tracks[i];
+    for x in &t.tracks[..n] {
         if is_confirmed(x.lifecycle.state) {
-            items[count] = spot_of(x);
+            items[count] = spot_of(*x);
             count += 1;
         }
     }
@@ -90,23 +89,14 @@ impl Places {
         ensures { result ≡ any (λ q. nearer q position radius) (places_of self.now) }
     {
         let n = tables::taken(self.count, MAX_TRACKS);
-        for i in 0..n {
-            let x = self.items[i];
-            if detections::births::is_nearer(x.position, position, radius) {
-                return true;
-            }
-        }
-        false
+        self.items[..n].iter().any(|x| detections::births::is_nearer(x.position, position, radius))
     }
 
     // Whether one is nearer than a birth distance that is set.
     fn is_suppressing(&self, position: [f64; 3], least: Option<f64>) -> bool
         ensures { result ≡ set_and (λ x. any (λ q. nearer q position x) (places_of self.now)) least }
     {
-        match least {
-            None => false,
-            Some(radius) => self.is_near(position, radius),
-        }
+        least.is_some_and(|radius| self.is_near(position, radius))
     }
 }
 
@@ -114,10 +104,7 @@ impl Places {
 fn is_low(score: Option<f64>, threshold: Option<f64>) -> bool
     ensures { result ≡ set_and (score_below score) threshold }
 {
-    match threshold {
-        None => false,
-        Some(t) => detections::births::is_score_below(score, t),
-    }
+    threshold.is_some_and(|t| detections::births::is_score_below(score, t))
 }
 
 // A detection near a confirmed track is counted where the settings ask for persistence.

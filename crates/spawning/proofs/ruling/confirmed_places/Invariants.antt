@@ -1,8 +1,7 @@
-use mathlib.Core.Path.{◌≡◌}
 use Prim.Native.Nat.{◌≤◌}
 use lib.ListN.{length}
 use Rattle.spawning.proofs.Placing.{Gathered}
 use Rattle.spawning.proofs.ruling.confirmed_places.Given as goal
 
-abbrev pub invariant-loop-i : goal.invariant-loop-i
-invariant-loop-i l = (l.i ≤ l.n) × (l.n ≤ 64) × (length l.t.tracks ≡ 64) × (length l.items ≡ 64) × (l.count ≤ l.i) × Gathered l.t.tracks l.items l.i l.count
+abbrev pub invariant-loop-x : goal.invariant-loop-x
+invariant-loop-x l = (length l.x-items ≤ 64) × (l.count ≤ l.x-index) × Gathered l.x-items l.items l.x-index l.count
