@@ -58,7 +58,7 @@ pub fn squared_mahalanobis<const N: usize>(u: [f64; N], s: [[f64; N]; N]) -> Res
 }
 
 // Whether the entries of a may be a covariance's: finite, then symmetric.
-#[tactic(auto, unfolding(crate::specs::Linalg::distance_reply, crate::specs::Linalg::distance_by, crate::specs::Linalg::squared_distance, crate::specs::Linalg::entries_checked))]
+#[tactic(auto, unfolding(crate::specs::Linalg::entries_checked))]
 fn check_entries<const N: usize>(a: [[f64; N]; N]) -> Result<(), Refusal>
     ensures { reply_of_validity result ≡ entries_reply N a.entry }
 {
