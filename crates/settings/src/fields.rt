@@ -9,21 +9,21 @@ use number::float::is_finite;
 pub fn negative(x: f64) -> bool
     ensures { result ≡ negative_number x }
 {
-    if is_finite(x) { x < 0.0 } else { true }
+    !is_finite(x) || x < 0.0
 }
 
 // Whether a number is not finite, or not above 0.
 pub fn not_positive(x: f64) -> bool
     ensures { result ≡ not_positive_number x }
 {
-    if is_finite(x) { x <= 0.0 } else { true }
+    !is_finite(x) || x <= 0.0
 }
 
 // Whether a number does not lie in 0..1; a NaN does not.
 fn outside_unit(x: f64) -> bool
     ensures { result ≡ outside_unit x }
 {
-    if 0.0 <= x { !(x <= 1.0) } else { true }
+    !(0.0 <= x && x <= 1.0)
 }
 
 // Whether a time is not above 0.
