@@ -89,9 +89,7 @@ fn gain<const N: usize>(
 ) -> Result<[[f64; N]; 6], Refusal>
     ensures { reply_by number_of result ≡ and_then (reply_of_factor factor.entry) (λ l. gain_reply N 6 (gain_by N 6 l cross.entry)) }
 {
-    let Some(l) = factor else {
-        return Err(Refusal::NotPositiveDefinite);
-    };
+    let l = factor.ok_or(Refusal::NotPositiveDefinite)?;
     let k = solving::gain(l, cross);
     if !finite::is_finite_matrix(k) {
         return Err(Refusal::NonFiniteResult);

@@ -44,10 +44,8 @@ pub fn distance_by_factor<const N: usize>(
 ) -> Result<f64, Refusal>
     ensures { reply_of_distance result ≡ and_then (reply_of_factor factor.entry) (λ l. distance_by N l u.entry) }
 {
-    match factor {
-        Some(l) => distance_by(l, u),
-        None => Err(Refusal::NotPositiveDefinite),
-    }
+    let l = factor.ok_or(Refusal::NotPositiveDefinite)?;
+    distance_by(l, u)
 }
 
 // The squared distance of the innovation u with the covariance s.
