@@ -52,6 +52,24 @@ zip_length f [] m e = refl
 zip_length f (x ∷ l) [] e = absurd (omega arith)
 zip_length f (x ∷ l) (y ∷ m) e = ap suc (zip_length f l m (omega arith))
 
+-- ---- what is told of the first places of arrays
+
+module _ (ids : List ℕ) (n m : ℕ) (costs : List Float) (takers : List ℕ) (pairs : List Pair) (h : n ≤ length ids) (g : m ≤ length takers) where
+  id_at : (i j : ℕ) → Dec (i < n) → pair_at (take n ids) n m costs i j ≡ pair_at ids n m costs i j
+  id_at i j (yes k) = rw (lt-ltb i n k, get_or-take n ids i 0 k)
+  id_at i j (no k) = let w : n ≤ i = omega arith in rw (le-ltb i n w)
+
+  pub told_front : PairsTold (take n ids) (length (take n ids)) (length (take m takers)) costs (take m takers) (length (take m takers)) pairs → PairsTold ids n m costs takers m pairs
+  told_front p =
+      let s : PairsTold (take n ids) n m costs (take m takers) m pairs =
+      subst (λ (k : ℕ). PairsTold (take n ids) k m costs (take m takers) m pairs) (length-take-le n ids h)
+      (subst (λ (k : ℕ). PairsTold (take n ids) (length (take n ids)) k costs (take m takers) k pairs) (length-take-le m takers g) p) in
+      record {
+        long = s.long;
+        at = λ j k. s.at j k ∙ ap (λ (i : ℕ). pair_at (take n ids) n m costs i j) (get_or-take m takers j 0 k) ∙ id_at (get_or takers j 0) j (dec_lt (get_or takers j 0) n);
+        rest = s.rest;
+      }
+
 -- ---- a table and its takers
 
 module _ (rule : PairConfig) (all : List Row) (ids : List ℕ) (seen : List Detection) (n m : ℕ) (st : length all ≡ 64) (numbers : take n ids ≡ take n (ids_of all)) (sd : length seen ≡ 64) (hn : n ≤ 64) (hm : m ≤ 64) where

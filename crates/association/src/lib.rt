@@ -1,7 +1,7 @@
 // What the births and the report are told of the pairing.
 #![tactic(auto)]
 
-ghost use Rattle.std.specs.Prelude.{◌≡◌, [], ◌≤◌, length, take, replicate};
+ghost use Rattle.std.specs.Prelude.{◌≡◌, [], ◌≤◌, length, replicate};
 ghost use Rattle.association.specs.Told.{mate_of, alone, PairsTold, unmatched_of, Listed};
 
 use types::{MAX_OBSERVATIONS, MAX_TRACKS};
@@ -14,7 +14,7 @@ pub struct Pair {
     pub cost: f64,
 }
 
-// Numbers of tracks in the front of an array.
+// Numbers of tracks in the front of an array: a list of fixed room, as there is no heap.
 #[derive(Clone, Copy)]
 pub struct Unmatched {
     pub ids: [u64; MAX_TRACKS],
@@ -33,22 +33,16 @@ pub fn no_pairs() -> [Pair; MAX_OBSERVATIONS]
     [none; MAX_OBSERVATIONS]
 }
 
-// The pair of each of the first m columns; a taker that is not one of the n tracks is none.
-// A leaf: the pairing stage has brought both counts down to the places that there are.
-pub fn pairs_of(
-    ids: &[u64; 64],
-    n: usize,
-    takers: &[usize; 64],
-    m: usize,
-    costs: &[f64; 4096],
-) -> [Pair; MAX_OBSERVATIONS]
-    requires { (n ≤ 64) × (m ≤ 64) }
-    ensures { PairsTold ids.now n m costs.now takers.now m result }
+// The pair of each column, which has a taker; one that is not the place of a track is none.
+// A leaf: the pairing stage lends no more tracks and columns than there are places.
+pub fn pairs_of(ids: &[u64], takers: &[usize], costs: &[f64; 4096]) -> [Pair; MAX_OBSERVATIONS]
+    requires { (length ids.now ≤ 64) × (length takers.now ≤ 64) }
+    ensures { PairsTold ids.now (length ids.now) (length takers.now) costs.now takers.now (length takers.now) result }
 {
+    let m = takers.len();
     let mut pairs = no_pairs();
-    for j in 0..m {
-        let i = takers[j];
-        if i < n {
+    for (j, &i) in takers.iter().enumerate() {
+        if i < ids.len() {
             pairs[j] = Pair {
                 taken: true,
                 track: ids[i],
@@ -61,17 +55,17 @@ pub fn pairs_of(
 
 // The numbers of the tracks that took no detection, in track order.
 // A leaf, as above.
-pub fn unmatched_of(ids: &[u64; 64], n: usize, mates: &[usize; 64]) -> Unmatched
-    requires { (n ≤ 64) × (length ids.now ≡ 64) }
-    ensures { Listed (unmatched_of (mate_of mates.now []) 0 (take n ids.now)) result.ids result.count }
+pub fn unmatched_of(ids: &[u64], mates: &[usize; 64]) -> Unmatched
+    requires { length ids.now ≤ 64 }
+    ensures { Listed (unmatched_of (mate_of mates.now []) 0 ids.now) result.ids result.count }
 {
     let mut left = [0u64; MAX_TRACKS];
     let mut count: usize = 0;
-    for i in 0..n {
+    for (i, id) in ids.iter().enumerate() {
         if mates[i] < MAX_OBSERVATIONS {
             continue;
         }
-        left[count] = ids[i];
+        left[count] = *id;
         count += 1;
     }
     Unmatched { ids: left, count }

@@ -6,9 +6,8 @@ use mathlib.Core.Bool.{Bool, true, false}
 use mathlib.Core.List.{List, [], ◌∷◌, map}
 use lib.Ieee.{Float}
 use Prim.Native.Nat.{ℕ, ◌<◌}
-use native.Mathlib.Omega.{arith}
-use lib.ListN.{length, take, get_or}
-use lib.Seq.{sets, take_all}
+use lib.ListN.{get_or}
+use lib.Seq.{sets}
 use Rattle.number.specs.Reply.{Reply, given, and_then}
 use Rattle.matrix.specs.Matrix.{Vector, Matrix}
 use Rattle.lists.specs.Each.{each}
@@ -26,7 +25,7 @@ use Rattle.detections.proofs.Rules.{classes_forbid, distance_decides}
 use Rattle.calls.specs.Pairing.{cost_of}
 use Rattle.pairing.specs.declared.Row.{Row}
 use Rattle.pairing.specs.Rows.{price_reply, row_costs}
-use Rattle.pairing.specs.Laid.{front, ahead, Laid}
+use Rattle.pairing.specs.Laid.{front, ahead}
 use Rattle.sightings.specs.Sights.{sight, sight_of}
 use Rattle.cost_table.specs.Table.{priced_by, with_rows, front_rows, Tabled}
 
@@ -63,11 +62,6 @@ module _ (c : PairConfig) (t : Target) (z : Vector) (seen : Option ℕ) where
         by : (b : Bool) → compatible t.class_label seen ≡ b → priced_by c t z seen (reply_of_factor f) ≡ price_reply c t (sight z (get_or noises j []) seen)
         by true h = let e = w h in priced_new f (s (rw e l) ∙ ap (λ (i : ℕ). factor_from t.expected (get_or noises i [])) e ∙ ap (factor_from t.expected) same)
         by false h = sym (priced_apart (reply_of_factor f) h) ∙ priced_apart (factor_from t.expected (get_or noises j [])) h ∙ priced_own (get_or noises j [])
-
--- ---- a row for all that the arrays hold
-
-pub laid_all : {A B : Type 0} (f : A → Reply B) (l : List A) (n k : ℕ) (r : Reply (Unit {0})) (before after : List B) → length l ≡ n → Laid f (take n l) k r before after → Laid f l k r before after
-laid_all {A} f l n k r before after e s = subst (λ (q : List A). Laid f q k r before after) (take_all n l (omega arith)) s
 
 -- ---- the table reads of a detection what a sight of it has
 

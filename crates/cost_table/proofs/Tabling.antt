@@ -7,7 +7,7 @@ use native.Mathlib.Nat.{suc-mul, zero-mul}
 use native.Mathlib.Omega.{arith}
 use lib.Ieee.{Float}
 use lib.ListN.{length, take, drop, get_or, set, length-append, take-append-drop}
-use lib.Seq.{sets, sets-eq, length-sets, drop-cons, length-take-le, get_or-take, take-take, take_at, drop_at}
+use lib.Seq.{sets, sets-eq, length-sets, drop-cons, length-take-le, take_all, take_at, drop_at}
 use Rattle.number.specs.Reply.{Reply, refused, given, and_then}
 use Rattle.kuhn_munkres.specs.Assignment.{rows_of, in_one}
 use Rattle.lists.specs.Each.{each}
@@ -104,17 +104,17 @@ module _ {A B C : Type 0} (f : A → B → Reply C) (l : List A) (ds : List B) (
       }
 
   -- the reply and the array, where a row is refused
-  pub tabling_stops : (n i k : ℕ) (mid after : List C) (a : A) (r : ℕ) → Tabling f l ds i before mid → i < n → n ≤ length l → k ≡ i * length ds → Laid (f (get_or l i a)) ds k (refused r) mid after
-      → (each (row f ds) (take n l) ≡ refused r) × (after ≡ sets before 0 (front_rows f (take n l) ds))
-  tabling_stops n i k mid after a r s h w e p =
+  pub tabling_stops : (i k : ℕ) (mid after : List C) (a : A) (r : ℕ) → Tabling f l ds i before mid → i < length l → k ≡ i * length ds → Laid (f (get_or l i a)) ds k (refused r) mid after
+      → (each (row f ds) l ≡ refused r) × (after ≡ sets before 0 (front_rows f l ds))
+  tabling_stops i k mid after a r s h e p =
       let stop = laid_refused (f (get_or l i a)) ds k r mid after p in
-      let front-is : take i (take n l) ≡ take i l = take-take i n l (omega arith) in
-      let long : length (take n l) ≡ n = length-take-le n l w in
-      let split : take n l ≡ take i l ++ (get_or l i a ∷ drop (suc i) (take n l)) =
-      sym (take-append-drop i (take n l)) ∙ rw (front-is, drop-cons (take n l) i a (omega arith), get_or-take n l i a h) in (
-        sym (each_at_all (row f ds) 0 (take n l)) ∙ each_stops (λ j x. row f ds x) l n i a s.done r h w (each_at_all (row f ds) 0 (take i l) ∙ s.gives) stop,
+      let whole : take (length l) l ≡ l = take_all (length l) l (omega arith) in
+      let split : l ≡ take i l ++ (get_or l i a ∷ drop (suc i) l) = sym (take-append-drop i l) ∙ rw (drop-cons l i a h) in (
+        ap (each (row f ds)) (sym whole)
+            ∙ sym (each_at_all (row f ds) 0 (take (length l) l))
+            ∙ each_stops (λ j x. row f ds x) l (length l) i a s.done r h (omega arith) (each_at_all (row f ds) 0 (take i l) ∙ s.gives) stop,
         p.content ∙ behind i k mid (front (f (get_or l i a)) ds) s e
-            ∙ ap (sets before 0) (sym (ap (λ (q : List A). front_rows f q ds) split ∙ front_rows_stop f ds (take i l) (get_or l i a) (drop (suc i) (take n l)) s.done r s.gives stop)),
+            ∙ ap (sets before 0) (sym (ap (λ (q : List A). front_rows f q ds) split ∙ front_rows_stop f ds (take i l) (get_or l i a) (drop (suc i) l) s.done r s.gives stop)),
       )
 
 -- ---- the cost table
@@ -134,19 +134,19 @@ module _ (c : PairConfig) (all : List Row) (ds : List Detection) (before : List 
     pub table_more : (o : Result (Unit {0}) Refusal) → i < length all → o ≡ Ok tt → Laid (price_reply c (get_or all i a).target) ds k (reply_of o) mid after → Rows (i + 1) after
     table_more o h q p = tabling_more (row_price c) all ds before i k mid after a s h w (subst (λ (z : Result (Unit {0}) Refusal). Laid (row_price c (get_or all i a)) ds k (reply_of z) mid after) q p)
 
-    pub table_stops : (n : ℕ) (o : Result (Unit {0}) Refusal) (why : Refusal) → i < n → n ≤ length all → o ≡ Err why → Laid (price_reply c (get_or all i a).target) ds k (reply_of o) mid after → Tabled c (take n all) ds (refused (number_of why)) before after
+    pub table_stops : (o : Result (Unit {0}) Refusal) (why : Refusal) → i < length all → o ≡ Err why → Laid (price_reply c (get_or all i a).target) ds k (reply_of o) mid after → Tabled c all ds (refused (number_of why)) before after
     unfolding row_costs
-    table_stops n o why h l q p =
-        let z = tabling_stops (row_price c) all ds before n i k mid after a (number_of why) s h l w (subst (λ (z : Result (Unit {0}) Refusal). Laid (row_price c (get_or all i a)) ds k (reply_of z) mid after) q p) in
+    table_stops o why h q p =
+        let z = tabling_stops (row_price c) all ds before i k mid after a (number_of why) s h w (subst (λ (z : Result (Unit {0}) Refusal). Laid (row_price c (get_or all i a)) ds k (reply_of z) mid after) q p) in
         record { is = sym (ap (λ (x : Reply (List (List Float))). and_then x (λ rows. given tt)) z.0); content = z.1 }
 
-  pub table_all : (n i : ℕ) (after : List Float) → i ≡ n → Rows i after → Tabled c (take n all) ds (given tt) before after
+  pub table_all : (i : ℕ) (after : List Float) → i ≡ length all → Rows i after → Tabled c all ds (given tt) before after
   unfolding row_costs
-  table_all n i after e t =
-      let s = subst (λ (j : ℕ). Rows j after) e t in
+  table_all i after e s =
+      let gives : each (row (row_price c) ds) all ≡ given s.done = ap (each (row (row_price c) ds)) (sym (take_all i all (omega arith))) ∙ s.gives in
       record {
-        is = sym (ap (λ (x : Reply (List (List Float))). and_then x (λ rows. given tt)) s.gives);
-        content = s.slots ∙ ap (sets before 0) (sym (front_rows_lem (row_price c) ds (take n all) s.done s.gives));
+        is = sym (ap (λ (x : Reply (List (List Float))). and_then x (λ rows. given tt)) gives);
+        content = s.slots ∙ ap (sets before 0) (sym (front_rows_lem (row_price c) ds all s.done gives));
       }
 
   -- where no pair is refused the array begins with the table

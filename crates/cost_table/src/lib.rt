@@ -1,7 +1,7 @@
 // The costs of a batch's pairs: a row for each track, row after row in one array. The factor of S is worked out again only where the detections' covariance changes.
 #![tactic(auto)]
 
-ghost use Rattle.std.specs.Prelude.{◌≡◌, true, false, ◌+◌, ◌≤◌, take};
+ghost use Rattle.std.specs.Prelude.{◌≡◌, true, false, ◌+◌, ◌≤◌, length};
 ghost use Rattle.number.specs.Reply.{given, and_then};
 ghost use Rattle.cholesky.specs.Factor.{reply_of_factor};
 ghost use Rattle.detections.specs.Pairs.{compatible};
@@ -17,7 +17,6 @@ use detections::pairs::{PairConfig, Rule, Ruling, Target};
 use pairing::Row;
 use sightings::Sightings;
 use types::refusal::Refusal;
-use types::{MAX_OBSERVATIONS, MAX_TRACKS};
 
 // A forbidden pair costs +infinity.
 fn cost_of(ruling: Ruling) -> f64
@@ -85,39 +84,34 @@ fn price_row(
     Ok(())
 }
 
-// The costs of the first n rows, a row of them for each. The first refusal decides, in track order and then in detection order.
+// A row of costs for each row. The first refusal decides, in track order and then in detection order.
 fn price_rows(
-    rows: [Row; MAX_TRACKS],
-    n: usize,
+    rows: &[Row],
     laid: &Sightings,
     rule: PairConfig,
     costs: &mut [f64; 4096],
 ) -> Result<(), Refusal>
-    requires { (n ≤ 64) × Sound laid.now }
-    ensures { Tabled rule (take n rows) (sights_of laid.now) (reply_of result) costs.old costs.new }
+    requires { (length rows.now ≤ 64) × Sound laid.now }
+    ensures { Tabled rule rows.now (sights_of laid.now) (reply_of result) costs.old costs.new }
 {
-    for i in 0..n {
-        let row = rows[i];
-        let t = row.target;
-        price_row(t, laid, rule, costs, i * laid.count)?;
+    for (i, row) in rows.iter().enumerate() {
+        price_row(row.target, laid, rule, costs, i * laid.count)?;
     }
     Ok(())
 }
 
-// The same for a batch's first m detections, which are laid out once.
-// A leaf: the pairing stage has brought both counts down to the places that there are.
+// The same for a batch's detections, which are laid out once.
+// A leaf: the pairing stage lends no more rows and detections than there are places.
 pub fn price_table(
-    rows: [Row; MAX_TRACKS],
-    n: usize,
-    seen: [Detection; MAX_OBSERVATIONS],
-    m: usize,
+    rows: &[Row],
+    seen: &[Detection],
     rule: PairConfig,
     costs: &mut [f64; 4096],
 ) -> Result<(), Refusal>
-    requires { (n ≤ 64) × (m ≤ 64) }
-    ensures { Tabled rule (take n rows) (take m seen) (reply_of result) costs.old costs.new }
+    requires { (length rows.now ≤ 64) × (length seen.now ≤ 64) }
+    ensures { Tabled rule rows.now seen.now (reply_of result) costs.old costs.new }
 {
     let mut laid = Sightings::new();
-    laid.lay_detections(seen, m);
-    price_rows(rows, n, &laid, rule, costs)
+    laid.lay_detections(seen);
+    price_rows(rows, &laid, rule, costs)
 }

@@ -1,14 +1,14 @@
 -- What the stage answers, from what its parts leave. Assumes nothing.
 use Rattle.std.specs.Prelude.{Err, Ok, Result, Option}
 use mathlib.Core.Path.{◌≡◌, refl, sym, ap, ◌∙◌, subst}
-use mathlib.Core.List.{List}
+use mathlib.Core.List.{List, map}
 use Prim.Native.Nat.{ℕ, ◌*◌, ◌≤◌, min}
 use native.Mathlib.Nat.{mul-le-mul_right}
 use native.Mathlib.Omega.{arith}
 use lib.IntN.{ℤ}
 use lib.Ieee.{Float}
 use lib.ListN.{length, take}
-use lib.Seq.{length-take-le}
+use lib.Seq.{length-take-le, take_all}
 use Rattle.number.specs.Reply.{Reply, refused, given, and_then}
 use Rattle.lists.proofs.Tables.{rows as front}
 use Rattle.kuhn_munkres.specs.Assignment.{rows_of, in_one}
@@ -22,7 +22,9 @@ use Rattle.pairing.specs.declared.Row.{Row}
 use Rattle.pairing.specs.Rows.{ids_of, price_reply, row_costs}
 use Rattle.cost_table.specs.Table.{Tabled}
 use Rattle.cost_table.proofs.Tabling.{table_rows, table_given}
-use Rattle.association.proofs.Columns.{pairs_all, unmatched_all}
+use Rattle.assignment.specs.Labelling.{row_or}
+use Rattle.pairing.specs.Rows.{Mates}
+use Rattle.association.proofs.Columns.{told_front, pairs_all, unmatched_all}
 use Rattle.matching.specs.declared.Paired.{Paired}
 use Rattle.matching.specs.Takers.{rows_paired, Takes}
 use Rattle.matching.specs.Stage.{rows_taken, RowsMatch, Tells}
@@ -48,14 +50,15 @@ module _ (rule : PairConfig) (all : List Row) (seen : List Detection) (wanted_ro
   seen_long = length-take-le m seen (omega arith)
 
   tells_answers : (ids : List ℕ) → take n ids ≡ take n (ids_of all) → (table : List (List Float)) (costs : List Float) → row_costs rule rows ds ≡ given table → rows_of n m (take (n * m) costs) ≡ table → (takers : List ℕ) → length takers ≡ 64
-      → (r : Paired) → Tells ids n m costs takers r → RowsMatch rule rows ds (given (takers_of m takers)) (Ok r)
-  tells_answers ids numbers table costs e cut takers sk r s =
+      → n ≤ length ids → (r : Paired) → Tells (take n ids) costs (take m takers) r → RowsMatch rule rows ds (given (takers_of m takers)) (Ok r)
+  tells_answers ids numbers table costs e cut takers sk h r s =
+      let mates : Mates (takers_of m takers) r.mates = subst (λ (l : List ℕ). Mates (map row_or l) r.mates) (take_all (length (take m takers)) (take m takers) (omega arith)) s.mates in
       record {
         takers = takers_of m takers;
         outcome = refl;
-        mates = s.mates;
-        pairs = pairs_all rule all ids seen n m st numbers sd hn hm takers sk table costs e cut r.pairs s.pairs;
-        unmatched = unmatched_all rule all ids seen n m st numbers sd hn hm takers sk r.mates r.unmatched r.unmatched_count s.mates s.unmatched;
+        mates = mates;
+        pairs = pairs_all rule all ids seen n m st numbers sd hn hm takers sk table costs e cut r.pairs (told_front ids n m costs takers r.pairs h (omega (arith, sk)) s.pairs);
+        unmatched = unmatched_all rule all ids seen n m st numbers sd hn hm takers sk r.mates r.unmatched r.unmatched_count mates s.unmatched;
       }
 
   -- ---- the stage
@@ -121,8 +124,8 @@ module _ (rule : PairConfig) (all : List Row) (seen : List Detection) (wanted_ro
           pub stage_unpaired : (why : Refusal) → q ≡ Err why → Answer (Err why)
           stage_unpaired why w = by_counts (Err why) (ends (Err why) w)
 
-          pub stage_told : q ≡ Ok tt → (ids : List ℕ) → take n ids ≡ take n (ids_of all) → (r : Paired) → Tells ids n m costs takers r → Answer (Ok r)
-          stage_told w ids numbers r h =
+          pub stage_told : q ≡ Ok tt → (ids : List ℕ) → take n ids ≡ take n (ids_of all) → n ≤ length ids → (r : Paired) → Tells (take n ids) costs (take m takers) r → Answer (Ok r)
+          stage_told w ids numbers l r h =
               by_counts (Ok r)
               (subst (λ (x : Reply (List (Option ℕ))). RowsMatch rule rows ds x (Ok r)) (sym (ends (Ok tt) w))
-              (tells_answers ids numbers priced.table costs priced.given_table priced.cut takers s.long r h))
+              (tells_answers ids numbers priced.table costs priced.given_table priced.cut takers s.long l r h))

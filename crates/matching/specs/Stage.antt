@@ -1,6 +1,6 @@
 -- The pairing stage of a batch as one answer. 01, Batch: "distances of class-compatible pairs in track order, and in detection order within a track, 7, 9 not finite; 8 a window age overflows; 10 the
 -- assignment's smallest step isn't finite".
-use Rattle.std.specs.Prelude.{ℕ, ◌≡◌, List, [], map, ℤ, Float, length, take, replicate, Err, Ok, Option, Result}
+use Rattle.std.specs.Prelude.{ℕ, ◌≡◌, List, [], map, ℤ, Float, length, replicate, Err, Ok, Option, Result}
 use Rattle.number.specs.Reply.{Reply, refused, given, and_then}
 use Rattle.lists.specs.Lay.{lay}
 use Rattle.lists.specs.Masks.{zipped}
@@ -62,7 +62,7 @@ RowsMatch rule rows ds reply (Err why) = reply ≡ refused (number_of why)
 
 -- ---- its end: takers and costs, as the code holds them, and what is told of them
 
-pub record Tells (ids : List ℕ) (n m : ℕ) (costs : List Float) (takers : List ℕ) (r : Paired) : Type 0 where
-  pub mates : Mates (takers_of m takers) r.mates
-  pub pairs : PairsTold ids n m costs takers m r.pairs
-  pub unmatched : Listed (unmatched_of (mate_of r.mates []) 0 (take n ids)) r.unmatched r.unmatched_count
+pub record Tells (ids : List ℕ) (costs : List Float) (takers : List ℕ) (r : Paired) : Type 0 where
+  pub mates : Mates (takers_of (length takers) takers) r.mates
+  pub pairs : PairsTold ids (length ids) (length takers) costs takers (length takers) r.pairs
+  pub unmatched : Listed (unmatched_of (mate_of r.mates []) 0 ids) r.unmatched r.unmatched_count

@@ -1,10 +1,10 @@
 -- What a loop that lays the answers for a list's elements into an array has done by index i. Assumes nothing.
-use mathlib.Core.Path.{◌≡◌, refl, sym, ap, ◌∙◌, subst}
+use mathlib.Core.Path.{◌≡◌, refl, sym, ap, ◌∙◌}
 use mathlib.Core.List.{List, [], ◌∷◌, ◌++◌}
 use Prim.Native.Nat.{ℕ, suc, ◌+◌, ◌≤◌, ◌<◌}
 use native.Mathlib.Omega.{arith}
 use lib.ListN.{length, take, drop, get_or, set, take-append-drop}
-use lib.Seq.{sets, drop-cons, length-take-le, get_or-take, take-take}
+use lib.Seq.{sets, drop-cons, length-take-le, take_all}
 use Rattle.number.specs.Reply.{Reply, refused, given, and_then}
 use Rattle.lists.specs.Each.{each}
 use Rattle.lists.proofs.Each.{each_at_all, each_cons, each_nil, each_long, each_more, each_stops}
@@ -49,22 +49,23 @@ module _ {A B : Type 0} (f : A → Reply B) (l : List A) (k : ℕ) (before : Lis
         slots = ap (λ (r : List B). set r j y) s.slots ∙ ap (λ (x : ℕ). set (sets before k s.done) x y) (omega arith) ∙ sym (sets_snoc s.done before k y);
       }
 
-  pub laying_stops : (n i : ℕ) (after : List B) (a : A) (r : ℕ) → Laying f l k i before after → i < n → n ≤ length l → f (get_or l i a) ≡ refused r → Laid f (take n l) k (refused r) before after
-  laying_stops n i after a r s h w e =
-      let front-is : take i (take n l) ≡ take i l = take-take i n l (omega arith) in
-      let long : length (take n l) ≡ n = length-take-le n l w in
-      let split : take n l ≡ take i l ++ (get_or l i a ∷ drop (suc i) (take n l)) =
-      sym (take-append-drop i (take n l)) ∙ rw (front-is, drop-cons (take n l) i a (omega arith), get_or-take n l i a h) in
-      let stop : each f (take n l) ≡ refused r = sym (each_at_all f 0 (take n l)) ∙ each_stops (λ j x. f x) l n i a s.done r h w (each_at_all f 0 (take i l) ∙ s.gives) e in
+  pub laying_stops : (i : ℕ) (after : List B) (a : A) (r : ℕ) → Laying f l k i before after → i < length l → f (get_or l i a) ≡ refused r → Laid f l k (refused r) before after
+  laying_stops i after a r s h e =
+      let whole : take (length l) l ≡ l = take_all (length l) l (omega arith) in
+      let split : l ≡ take i l ++ (get_or l i a ∷ drop (suc i) l) = sym (take-append-drop i l) ∙ rw (drop-cons l i a h) in
+      let stop : each f l ≡ refused r =
+      ap (each f) (sym whole)
+      ∙ sym (each_at_all f 0 (take (length l) l))
+      ∙ each_stops (λ j x. f x) l (length l) i a s.done r h (omega arith) (each_at_all f 0 (take i l) ∙ s.gives) e in
       record {
         is = sym (ap (λ (x : Reply (List B)). and_then x (λ m. given tt)) stop);
-        content = s.slots ∙ ap (sets before k) (sym (ap (front f) split ∙ front_stop f (take i l) (get_or l i a) (drop (suc i) (take n l)) s.done r s.gives e));
+        content = s.slots ∙ ap (sets before k) (sym (ap (front f) split ∙ front_stop f (take i l) (get_or l i a) (drop (suc i) l) s.done r s.gives e));
       }
 
-  pub laying_all : (n i : ℕ) (after : List B) → i ≡ n → Laying f l k i before after → Laid f (take n l) k (given tt) before after
-  laying_all n i after e t =
-      let s = subst (λ (j : ℕ). Laying f l k j before after) e t in
+  pub laying_all : (i : ℕ) (after : List B) → i ≡ length l → Laying f l k i before after → Laid f l k (given tt) before after
+  laying_all i after e s =
+      let gives : each f l ≡ given s.done = ap (each f) (sym (take_all i l (omega arith))) ∙ s.gives in
       record {
-        is = sym (ap (λ (x : Reply (List B)). and_then x (λ m. given tt)) s.gives);
-        content = s.slots ∙ ap (sets before k) (sym (front_all f (take n l) s.done s.gives));
+        is = sym (ap (λ (x : Reply (List B)). and_then x (λ m. given tt)) gives);
+        content = s.slots ∙ ap (sets before k) (sym (front_all f l s.done gives));
       }

@@ -26,21 +26,14 @@ pub struct Row {
 pub fn row_of(x: Track3D) -> Row
     ensures { result ≡ row_of x }
 {
-    let f = x.filter;
-    let class_label = x.class_label;
-    let class_prior = x.class_prior;
-    let life = x.lifecycle;
-    let last_observation = life.last_observation;
-    let expected = filter::expected_position(f);
-    let target = Target {
-        expected,
-        class_label,
-        class_prior,
-    };
     Row {
-        target,
+        target: Target {
+            expected: filter::expected_position(x.filter),
+            class_label: x.class_label,
+            class_prior: x.class_prior,
+        },
         id: x.id,
-        last_observation,
+        last_observation: x.lifecycle.last_observation,
     }
 }
 
@@ -48,58 +41,52 @@ pub fn row_of(x: Track3D) -> Row
 pub fn blank_row() -> Row
     ensures { result ≡ blank_row }
 {
-    let position = [0.0f64; 3];
-    let covariance = [0.0f64; 9];
-    let expected = Expected {
-        position,
-        covariance,
-    };
-    let target = Target {
-        expected,
-        class_label: None,
-        class_prior: None,
-    };
     Row {
-        target,
+        target: Target {
+            expected: Expected {
+                position: [0.0; 3],
+                covariance: [0.0; 9],
+            },
+            class_label: None,
+            class_prior: None,
+        },
         id: 0,
         last_observation: None,
     }
 }
 
-// The rows of the first n tracks.
+// The rows of the first n tracks. Array and count stand side by side, as the tracker's table has them, where the count may be anything.
 pub fn rows_of(tracks: [Track3D; MAX_TRACKS], n: usize) -> [Row; MAX_TRACKS]
     ensures { result ≡ lay (take n (map row_of tracks)) (replicate 64 blank_row) }
 {
-    let blank = blank_row();
-    let mut rows = [blank; MAX_TRACKS];
+    let mut rows = [blank_row(); MAX_TRACKS];
     let count = tables::taken(n, MAX_TRACKS);
     for i in 0..count {
-        let x = row_of(tracks[i]);
-        rows[i] = x;
+        rows[i] = row_of(tracks[i]);
     }
     rows
 }
 
-// The numbers of the first n rows' tracks.
-// A leaf, as the other two that the pairing stage calls: it lends arrays that it has just made, and counts of at most 64.
-pub fn ids_of(rows: [Row; MAX_TRACKS], n: usize) -> [u64; MAX_TRACKS]
-    requires { n ≤ 64 }
-    ensures { result ≡ lay (take n (ids_of rows)) (replicate 64 0) }
+// The numbers of the rows' tracks.
+// A leaf, as the other two that the pairing stage calls: it lends the first places of arrays.
+pub fn ids_of(rows: &[Row]) -> [u64; MAX_TRACKS]
+    requires { length rows.now ≤ 64 }
+    ensures { result ≡ lay (ids_of rows.now) (replicate 64 0) }
 {
     let mut ids = [0u64; MAX_TRACKS];
-    for i in 0..n {
-        ids[i] = rows[i].id;
+    for (i, row) in rows.iter().enumerate() {
+        ids[i] = row.id;
     }
     ids
 }
 
 // The column of each row, into `mates`, which has 64 everywhere at first; 64 for none. The last column comes first, so that of two columns of a row the first stays.
 // A leaf, as above.
-pub fn mates_of(takers: &[usize; 64], m: usize, mates: &mut [usize; 64])
-    requires { (m ≤ 64) × (length takers.now ≡ 64) × (mates.old ≡ replicate 64 64) }
-    ensures { Mates (takers_of m takers.now) mates.new }
+pub fn mates_of(takers: &[usize], mates: &mut [usize; 64])
+    requires { (length takers.now ≤ 64) × (mates.old ≡ replicate 64 64) }
+    ensures { Mates (takers_of (length takers.now) takers.now) mates.new }
 {
-    for j in (0..m).rev() {
+    for j in (0..takers.len()).rev() {
         let i = takers[j];
         if i < 64 {
             mates[i] = j;
@@ -118,22 +105,19 @@ fn seen_within(last: Option<i64>, now: i64, window: i64) -> Option<bool>
     Some(age <= window)
 }
 
-// A leaf, as above. Which of the first n rows' tracks are recent, into the front of `flags`. The first age that overflows decides.
+// A leaf, as above. Which of the rows' tracks are recent, into the front of `flags`. The first age that overflows decides.
 pub fn mark_recent(
-    rows: [Row; MAX_TRACKS],
-    n: usize,
+    rows: &[Row],
     time: i64,
     window: i64,
     flags: &mut [bool; 64],
 ) -> Result<(), Refusal>
-    requires { n ≤ 64 }
-    ensures { Laid (recent_row window time) (take n rows) 0 (reply_of result) flags.old flags.new }
+    requires { length rows.now ≤ 64 }
+    ensures { Laid (recent_row window time) rows.now 0 (reply_of result) flags.old flags.new }
 {
-    for i in 0..n {
-        let Some(recent) = seen_within(rows[i].last_observation, time, window) else {
-            return Err(Refusal::TimestampOverflow);
-        };
-        flags[i] = recent;
+    for (i, row) in rows.iter().enumerate() {
+        let recent = seen_within(row.last_observation, time, window);
+        flags[i] = recent.ok_or(Refusal::TimestampOverflow)?;
     }
     Ok(())
 }

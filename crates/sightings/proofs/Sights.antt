@@ -2,9 +2,9 @@
 use mathlib.Core.Path.{◌≡◌, refl, ap, ◌∙◌}
 use mathlib.Core.Bool.{Bool}
 use mathlib.Core.List.{List, [], ◌∷◌, map}
-use Prim.Native.Nat.{ℕ, zero, suc, ◌≤◌, ◌<◌}
+use Prim.Native.Nat.{ℕ, zero, suc, ◌<◌}
 use native.Mathlib.Omega.{arith}
-use lib.ListN.{length, take, get_or}
+use lib.ListN.{length, get_or}
 use Rattle.matrix.specs.Matrix.{Vector, tabulate}
 use Rattle.matrix.proofs.Tabulated.{get_d_tabulate, tabulate_same}
 use Rattle.detections.specs.declared.Detection.{Detection}
@@ -19,10 +19,9 @@ pub length_tabulate : {A : Type 0} (n : ℕ) (f : ℕ → A) → length (tabulat
 length_tabulate zero f = refl
 length_tabulate (suc n) f = ap suc (length_tabulate n (λ k. f (suc k)))
 
-tabulate_front : {A B : Type 0} (g : A → B) (n : ℕ) (l : List A) (a : A) → n ≤ length l → tabulate n (λ k. g (get_or l k a)) ≡ map g (take n l)
-tabulate_front g zero l a h = refl
-tabulate_front g (suc n) [] a h = absurd (omega arith)
-tabulate_front {A} {B} g (suc n) (x ∷ l) a h = ap {B = List B} (λ r. g x ∷ r) (tabulate_front g n l a (omega arith))
+tabulate_all : {A B : Type 0} (g : A → B) (l : List A) (a : A) → tabulate (length l) (λ k. g (get_or l k a)) ≡ map g l
+tabulate_all g [] a = refl
+tabulate_all {A} {B} g (x ∷ l) a = ap {B = List B} (λ r. g x ∷ r) (tabulate_all g l a)
 
 module _ (s : Sightings) where
   pub sights_long : length (sights_of s) ≡ s.count
@@ -42,10 +41,9 @@ pub record Sighted (observations : List Detection) (j : ℕ) (positions noises :
   pub labelled_long : length labelled ≡ 64
   pub at : (k : ℕ) → k < j → sight_at positions noises labels labelled k ≡ sight_of (get_or observations k no_detection)
 
-module _ (observations : List Detection) where
-  pub sighted_all : (m j : ℕ) (positions noises : List Vector) (labels : List ℕ) (labelled : List Bool) → Sighted observations j positions noises labels labelled → j ≡ m → m ≤ length observations
-      → sights_in positions noises labels labelled m ≡ map sight_of (take m observations)
-  unfolding sights_in
-  sighted_all m j positions noises labels labelled s e h =
-      tabulate_same m (sight_at positions noises labels labelled) (λ k. sight_of (get_or observations k no_detection)) (λ k l. s.at k (omega arith))
-      ∙ tabulate_front sight_of m observations no_detection h
+pub sighted_all : (observations : List Detection) (j : ℕ) (positions noises : List Vector) (labels : List ℕ) (labelled : List Bool) → Sighted observations j positions noises labels labelled → j ≡ length observations
+    → sights_in positions noises labels labelled (length observations) ≡ map sight_of observations
+unfolding sights_in
+sighted_all observations j positions noises labels labelled s e =
+    tabulate_same (length observations) (sight_at positions noises labels labelled) (λ k. sight_of (get_or observations k no_detection)) (λ k l. s.at k (omega arith))
+    ∙ tabulate_all sight_of observations no_detection

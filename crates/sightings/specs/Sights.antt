@@ -1,18 +1,10 @@
 -- Detections as arrays of numbers hold them. Of a detection a pair depends on its position, its covariance and its class. 01, Detection: "A pair may be made if classes agree or one is absent,
 -- the squared distance is at most the gate, and the cost with prior penalty stays finite."
-use Rattle.std.specs.Prelude.{ℕ, ◌≤◌, ◌<◌, ◌≡◌, Bool, true, false, cond, List, [], length, get_or, None, Option, Some}
+use Rattle.std.specs.Prelude.{ℕ, ◌≤◌, ◌<◌, ◌≡◌, Bool, false, cond, List, [], length, get_or, None, Option, Some}
 use Rattle.matrix.specs.Matrix.{Vector, tabulate}
 use Rattle.detections.specs.declared.Detection.{Detection}
 
 -- ---- a class as a number, and whether there is one
-
-abbrev pub label_of : Option ℕ → ℕ
-label_of None = 0
-label_of (Some x) = x
-
-abbrev pub is_labelled : Option ℕ → Bool
-is_labelled None = false
-is_labelled (Some x) = true
 
 abbrev pub class_at : List ℕ → List Bool → ℕ → Option ℕ
 class_at labels labelled j = cond (get_or labelled j false) (Some (get_or labels j 0)) None

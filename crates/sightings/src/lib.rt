@@ -1,14 +1,13 @@
 // What pairs read of a batch's detections, laid out once in arrays of numbers; and which of them have the same covariance.
 #![tactic(auto)]
 
-ghost use Rattle.std.specs.Prelude.{◌≡◌, true, map, ◌≤◌, ◌<◌, take};
-ghost use Rattle.sightings.specs.Sights.{label_of, is_labelled, class_at, sight_of, Kin};
+ghost use Rattle.std.specs.Prelude.{◌≡◌, true, map, ◌≤◌, ◌<◌, length};
+ghost use Rattle.sightings.specs.Sights.{class_at, sight_of, Kin};
 ghost use Rattle.sightings.specs.Laid.{sights_of, Sound};
 
 use detections::Detection;
-use types::MAX_OBSERVATIONS;
 
-// What is read of the first `count` detections, each kind in an array of its own, and for each the first of its run, whose covariance is the same. What stands behind them is open: nobody reads it.
+// What is read of `count` detections, each kind in an array of its own with room for 64, as there is no heap; and for each the first of its run, whose covariance is the same. What stands behind them is open: nobody reads it.
 // Not `Copy`, as it is large: it is made once for a batch, and lent.
 #[derive(Drop)]
 pub struct Sightings {
@@ -18,25 +17,6 @@ pub struct Sightings {
     pub labelled: [bool; 64],
     pub kin: [usize; 64],
     pub count: usize,
-}
-
-// A class as a number, and whether there is one.
-fn label_of(class: Option<u32>) -> u32
-    ensures { result ≡ label_of class }
-{
-    match class {
-        None => 0,
-        Some(x) => x,
-    }
-}
-
-fn is_labelled(class: Option<u32>) -> bool
-    ensures { result ≡ is_labelled class }
-{
-    match class {
-        None => false,
-        Some(_) => true,
-    }
 }
 
 // Whether two numbers are one and the same, the sign of a zero included; equal numbers have bits that are told. That it says no is open: it costs time alone.
@@ -80,22 +60,18 @@ impl Sightings {
         }
     }
 
-    // Each of the first m detections into its place.
-    fn lay(&mut self, observations: [Detection; MAX_OBSERVATIONS], m: usize)
-        requires { m ≤ 64 }
-        ensures { (self.new.count ≡ m) × (sights_of self.new ≡ map sight_of (take m observations)) }
+    // Each detection into its place.
+    fn lay(&mut self, observations: &[Detection])
+        requires { length observations.now ≤ 64 }
+        ensures { (self.new.count ≡ length observations.now) × (sights_of self.new ≡ map sight_of observations.now) }
     {
-        for j in 0..m {
-            let d = observations[j];
-            let position = d.position;
-            let noise = d.covariance;
-            let class = d.class_label;
-            self.positions[j] = position;
-            self.noises[j] = noise;
-            self.labels[j] = label_of(class);
-            self.labelled[j] = is_labelled(class);
+        for (j, d) in observations.iter().enumerate() {
+            self.positions[j] = d.position;
+            self.noises[j] = d.covariance;
+            self.labels[j] = d.class_label.unwrap_or(0);
+            self.labelled[j] = d.class_label.is_some();
         }
-        self.count = m;
+        self.count = observations.len();
     }
 
     // For each detection the first of its run. How long the runs are is open, as it costs time alone.
@@ -114,12 +90,12 @@ impl Sightings {
         }
     }
 
-    // The first m detections, in the place of those that were here. A leaf, as above.
-    pub fn lay_detections(&mut self, observations: [Detection; MAX_OBSERVATIONS], m: usize)
-        requires { m ≤ 64 }
-        ensures { Sound self.new × (sights_of self.new ≡ map sight_of (take m observations)) }
+    // These detections, in the place of those that were here. A leaf, as above.
+    pub fn lay_detections(&mut self, observations: &[Detection])
+        requires { length observations.now ≤ 64 }
+        ensures { Sound self.new × (sights_of self.new ≡ map sight_of observations.now) }
     {
-        self.lay(observations, m);
+        self.lay(observations);
         self.find_kin();
     }
 }

@@ -24,7 +24,7 @@ use Rattle.sightings.specs.Laid.{sights_of}
 use Rattle.sightings.specs.Sights.{sight, class_at}
 use Rattle.sightings.proofs.Sights.{sights_long, sights_at}
 use Rattle.cost_table.specs.Table.{reply_of_entry, priced_by}
-use Rattle.cost_table.proofs.Pricing.{laid_all, priced_new, priced_held}
+use Rattle.cost_table.proofs.Pricing.{priced_new, priced_held}
 use Rattle.cost_table.proofs.price_row.Goals as goal
 use Rattle.cost_table.proofs.price_row.Goals.{then-is_due, else-is_due}
 
@@ -94,14 +94,10 @@ returns-in_err-cost c =
       | then-is_due w ↦ new_serves a.rule a.t a.laid.now.noises c.loop-j.j (get_or a.laid.now.kin c.loop-j.j 0) c.class_at-seen.result same _ _ w.held-is (ap reply_of_factor w.factor-is ∙ w.factor_from-factor.ensures)
       | else-is_due w ↦ held_serves a.rule a.t a.laid.now.noises c.loop-j.j (get_or a.laid.now.kin c.loop-j.j 0) c.class_at-seen.result same _ _ _ _ w.held-is w.factor-is v.2 few (c.is_due.ensures w.if-is_due.false)
     ] in
-    let long = sights_long a.laid.now in
     let p = err_from_is_err_and c.from_residual.result c.from_residual.ensures.1 in
     rw (p.1, p.2)
-    (laid_all _ _ a.laid.now.count _ _ _ _ long
-    (laying_stops _ _ _ _ a.laid.now.count c.loop-j.j _ no_detection _ v.3 (omega (arith, t, v.1)) (omega (arith, long))
-    (price_lem a.rule a.t a.laid.now c.loop-j.j _ _ (Err c.in_err-cost.field-0.0) (omega (arith, t, v.1)) c.class_at-seen.ensures c.in_err-cost.ensures s.1)))
+    (laying_stops _ _ _ _ c.loop-j.j _ no_detection _ v.3 (omega (arith, t, v.1, sights_long a.laid.now))
+    (price_lem a.rule a.t a.laid.now c.loop-j.j _ _ (Err c.in_err-cost.field-0.0) (omega (arith, t, v.1)) c.class_at-seen.ensures c.in_err-cost.ensures s.1))
 
 pub returns : goal.returns
-returns c =
-    let a = c.args in
-    laid_all _ _ a.laid.now.count _ _ _ _ (sights_long a.laid.now) (laying_all _ _ _ _ a.laid.now.count c.loop-j.j _ (omega (arith, c.loop-j-test.false, c.loop-j.invariant.0, c.loop-j.invariant.1)) c.loop-j.invariant.3)
+returns c = laying_all _ _ _ _ c.loop-j.j _ (omega (arith, c.loop-j-test.false, c.loop-j.invariant.0, c.loop-j.invariant.1, sights_long c.args.laid.now)) c.loop-j.invariant.3

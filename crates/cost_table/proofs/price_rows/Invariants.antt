@@ -1,4 +1,3 @@
-use mathlib.Core.Path.{◌≡◌}
 use Prim.Native.Nat.{◌≤◌}
 use lib.ListN.{length}
 use Rattle.sightings.specs.Laid.{sights_of}
@@ -6,4 +5,4 @@ use Rattle.cost_table.proofs.Tabling.{Rows}
 use Rattle.cost_table.proofs.price_rows.Given as goal
 
 abbrev pub invariant-loop-i : goal.invariant-loop-i
-invariant-loop-i l = (l.i ≤ l.n) × (length l.rows ≡ 64) × Rows l.rule l.rows (sights_of l.laid) l.initial.costs l.i l.costs
+invariant-loop-i l = (l.i ≤ length l.rows) × Rows l.rule l.rows (sights_of l.laid) l.initial.costs l.i l.costs

@@ -3,13 +3,9 @@ use Rattle.std.proofs.lemmas.Result.{err_from_is_err_and}
 use mathlib.Core.Bool.{false}
 use mathlib.Core.List.{List}
 use mathlib.Core.Path.{◌≡◌, ap, ◌∙◌}
-use Prim.Native.Nat.{ℕ, ◌≤◌}
-use lib.ListN.{length, take, replicate, length-replicate}
-use lib.Seq.{length-take-le}
+use Prim.Native.Nat.{ℕ}
+use lib.ListN.{length, replicate, length-replicate}
 use mir.Facts.{to_z-of_z}
-use native.Mathlib.Omega.{arith}
-use borrow.Author.Rules.{rules}
-use Rattle.lists.proofs.Laying.{length_mapped}
 use Rattle.matching.proofs.Taking.{laid_long, recent_done, recent_stops}
 use Rattle.matching.proofs.assign_recent_first.Goals as goal
 
@@ -17,25 +13,20 @@ use Rattle.matching.proofs.assign_recent_first.Goals as goal
 sized : (l : List ℕ) → l ≡ replicate 64 64 → length l ≡ 64
 sized l e = ap length e ∙ length-replicate {A = ℕ} 64 64
 
-rows_long : {A : Type 0} (rows : List A) (n : ℕ) → length rows ≡ 64 → n ≤ 64 → length (take n rows) ≡ n
-rows_long rows n e h = length-take-le n rows (omega arith)
-
 pub pair_cascade-requires : goal.pair_cascade-requires
 pair_cascade-requires c =
-    (c.requires.0, laid_long _ _ _ _ _ c.mark_recent.ensures, c.requires.1, sized _ c.requires.1)
+    (c.requires.0, laid_long _ _ _ _ _ c.mark_recent.ensures, c.requires.2, sized _ c.requires.2)
 
 pub returns : goal.returns
 returns c =
-    let long : length c.args.rows ≡ 64 = search (rules, length_mapped) in
-    recent_done c.args.window c.args.time _ c.args.table.rows (replicate 64 false) _ (rows_long c.args.rows c.args.table.rows long c.requires.0.0) c.requires.0.0 c.mark_recent.result
+    recent_done c.args.window c.args.time _ c.args.table.rows (replicate 64 false) _ c.requires.1 c.requires.0.0 c.mark_recent.result
     (rw (to_z-of_z c.ranges.time, to_z-of_z c.ranges.window) at c.mark_recent.ensures)
     c.args.gate _ c.args.table.columns c.in_ok-mark_recent.was _ _ _ c.pair_cascade.ensures
 
 pub returns-in_err-mark_recent : goal.returns-in_err-mark_recent
 returns-in_err-mark_recent c =
-    let long : length c.args.rows ≡ 64 = search (rules, length_mapped) in
     let q = err_from_is_err_and c.from_residual.result c.from_residual.ensures.1 in
     rw (q.1, q.2)
-    (recent_stops c.args.window c.args.time _ c.args.table.rows (replicate 64 false) _ (rows_long c.args.rows c.args.table.rows long c.requires.0.0) c.requires.0.0 c.mark_recent.result
+    (recent_stops c.args.window c.args.time _ c.args.table.rows (replicate 64 false) _ c.requires.1 c.requires.0.0 c.mark_recent.result
     (rw (to_z-of_z c.ranges.time, to_z-of_z c.ranges.window) at c.mark_recent.ensures)
-    c.args.gate _ c.args.table.columns _ c.in_err-mark_recent.was _ (sized _ c.requires.1))
+    c.args.gate _ c.args.table.columns _ c.in_err-mark_recent.was _ (sized _ c.requires.2))

@@ -15,7 +15,7 @@ use Rattle.lists.specs.Lay.{lay}
 use Rattle.matrix.specs.Matrix.{nought}
 use Rattle.pairing.specs.declared.Row.{Row}
 use Rattle.pairing.specs.Rows.{ids_of}
-use Rattle.pairing.proofs.Rows.{lay_read}
+use Rattle.pairing.proofs.Rows.{lay_read, map_take}
 use Rattle.matching.proofs.Stage.{stage_unpriced, stage_unpaired, stage_told}
 use Rattle.matching.proofs.pair_tracks.Goals as goal
 
@@ -40,7 +40,12 @@ pub slice_bounds-costs-end : goal.slice_bounds-costs-end
 slice_bounds-costs-end c = in_front _ _ _ _ c.price_table.new.costs c.taken-count.ensures c.taken-columns.ensures c.price_table.array_long
 
 pub assign_columns-requires : goal.assign_columns-requires
-assign_columns-requires c = (whole _ _ _ _ c.price_table.new.costs c.taken-count.ensures c.taken-columns.ensures c.price_table.array_long, search rules)
+assign_columns-requires c =
+    let long : length c.args.rows ≡ 64 = search (rules, length_mapped) in (
+      whole _ _ _ _ c.price_table.new.costs c.taken-count.ensures c.taken-columns.ensures c.price_table.array_long,
+      length-take-le c.taken-count.result c.args.rows (omega (arith, long, c.taken-count.ensures)),
+      search rules,
+    )
 
 pub returns-in_err-price_table : goal.returns-in_err-price_table
 returns-in_err-price_table c =
@@ -58,25 +63,24 @@ returns-in_err-assign_columns c =
     (stage_unpaired c.args.rule c.args.rows c.args.seen c.args.n c.args.m _ _ long seen c.taken-count.ensures c.taken-columns.ensures c.args.window c.args.time (replicate 4096 nought) fresh c.price_table.result _ c.price_table.ensures c.in_ok-price_table.was _ c.assign_columns.result (rw (to_z-of_z c.ranges.time) at c.assign_columns.ensures) _ c.in_err-assign_columns.was)
 
 -- the numbers of the rows
-module _ (n : ℕ) (all : List Row) (ids : List ℕ) (long : length all ≡ 64) (is : ids ≡ lay (take n (ids_of all)) (replicate 64 0)) where
+module _ (n : ℕ) (all : List Row) (ids : List ℕ) (long : length all ≡ 64) (h : n ≤ 64) (is : ids ≡ lay (ids_of (take n all)) (replicate 64 0)) where
+  laid : ids ≡ lay (take n (ids_of all)) (replicate 64 0)
+  laid = is ∙ ap (λ (l : List ℕ). lay l (replicate 64 0)) (sym (map_take (λ (r : Row). r.id) n all))
+
   numbered : length (ids_of all) ≡ length (replicate {A = ℕ} 64 0)
   numbered = length-map all (λ (r : Row). r.id) ∙ long ∙ sym (length-replicate {A = ℕ} 64 0)
 
-  ids_long : length ids ≡ 64
-  ids_long = ap length is ∙ length_lay (take n (ids_of all)) (replicate 64 0) (omega (arith, length-take n (ids_of all), numbered)) ∙ length-replicate {A = ℕ} 64 0
+  ids_long : n ≤ length ids
+  ids_long = omega (arith, h, ap length laid ∙ length_lay (take n (ids_of all)) (replicate 64 0) (omega (arith, length-take n (ids_of all), numbered)) ∙ length-replicate {A = ℕ} 64 0)
 
   ids_read : take n ids ≡ take n (ids_of all)
-  ids_read = ap (take n) is ∙ lay_read n (ids_of all) (replicate 64 0) numbered
+  ids_read = ap (take n) laid ∙ lay_read n (ids_of all) (replicate 64 0) numbered
 
 pub returns : goal.returns
 returns c =
     let long : length c.args.rows ≡ 64 = search (rules, length_mapped) in
     let seen : length c.args.seen ≡ 64 = search (rules, length_mapped) in
     stage_told c.args.rule c.args.rows c.args.seen c.args.n c.args.m _ _ long seen c.taken-count.ensures c.taken-columns.ensures c.args.window c.args.time (replicate 4096 nought) fresh c.price_table.result _ c.price_table.ensures
-    c.in_ok-price_table.was _ c.assign_columns.result (rw (to_z-of_z c.ranges.time) at c.assign_columns.ensures) c.in_ok-assign_columns.was c.ids_of-ids.result (ids_read c.taken-count.result c.args.rows c.ids_of-ids.result long c.ids_of-ids.ensures) _ c.tell.ensures
-
-pub tell-requires : goal.tell-requires
-tell-requires c =
-    let long : length c.args.rows ≡ 64 = search (rules, length_mapped) in
-    let w = whole _ _ _ _ c.price_table.new.costs c.taken-count.ensures c.taken-columns.ensures c.price_table.array_long in
-    (w.0, w.1, c.assign_columns.ensures.long, ids_long c.taken-count.result c.args.rows c.ids_of-ids.result long c.ids_of-ids.ensures)
+    c.in_ok-price_table.was _ c.assign_columns.result (rw (to_z-of_z c.ranges.time) at c.assign_columns.ensures) c.in_ok-assign_columns.was c.ids_of-ids.result
+    (ids_read c.taken-count.result c.args.rows c.ids_of-ids.result long (omega (arith, c.taken-count.ensures)) c.ids_of-ids.ensures)
+    (ids_long c.taken-count.result c.args.rows c.ids_of-ids.result long (omega (arith, c.taken-count.ensures)) c.ids_of-ids.ensures) _ c.tell.ensures

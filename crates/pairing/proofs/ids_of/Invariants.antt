@@ -6,4 +6,4 @@ use Rattle.pairing.specs.Rows.{ids_of}
 use Rattle.pairing.proofs.ids_of.Given as goal
 
 abbrev pub invariant-loop-i : goal.invariant-loop-i
-invariant-loop-i l = (l.i ≤ l.n) × (length l.rows ≡ 64) × (l.ids ≡ lay (take l.i (ids_of l.rows)) (replicate 64 0))
+invariant-loop-i l = (l.i ≤ length l.rows) × (l.ids ≡ lay (take l.i (ids_of l.rows)) (replicate 64 0))

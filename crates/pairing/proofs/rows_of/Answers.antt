@@ -15,7 +15,7 @@ use Rattle.pairing.proofs.rows_of.Goals as goal
 
 pub loop-i-init : goal.loop-i-init
 unfolding lay
-loop-i-init c = (omega arith, omega (arith, c.taken-count.ensures), search (rules, length_mapped), ap (λ (b : Row). replicate 64 b) c.blank_row-blank.ensures)
+loop-i-init c = (omega arith, omega (arith, c.taken-count.ensures), search (rules, length_mapped), ap (λ (b : Row). replicate 64 b) c.blank_row-rows.ensures)
 
 pub loop-i-preserved : goal.loop-i-preserved
 loop-i-preserved c =
@@ -25,7 +25,7 @@ loop-i-preserved c =
       omega arith,
       v.1,
       v.2,
-      map_lay row_of l.args.tracks (replicate 64 blank_row) _ l.loop-i.i _ _ (omega (arith, v.1, v.2)) (omega (arith, v.1, length-replicate {A = Row} 64 blank_row)) c.row_of-x.ensures v.3,
+      map_lay row_of l.args.tracks (replicate 64 blank_row) _ l.loop-i.i _ _ (omega (arith, v.1, v.2)) (omega (arith, v.1, length-replicate {A = Row} 64 blank_row)) c.row_of.ensures v.3,
     )
 
 pub returns : goal.returns
@@ -38,18 +38,3 @@ returns c =
     v.3
     ∙ ap (λ (q : List Row). lay q (replicate 64 blank_row))
     (ap (λ (j : ℕ). take j (map row_of s.args.tracks)) e ∙ sym (front (map row_of s.args.tracks) 64 s.args.n k.taken-count.result (length-map s.args.tracks row_of ∙ v.2) k.taken-count.ensures))
-
-pub offset_bounds-tracks-i : goal.offset_bounds-tracks-i
-offset_bounds-tracks-i c = omega (arith, c.loop-i-test.true, c.loop-i.invariant.1)
-
-pub bounds-tracks-i : goal.bounds-tracks-i
-bounds-tracks-i c = omega (arith, c.loop-i-test.true, c.loop-i.invariant.1)
-
-pub offset_bounds-rows-i : goal.offset_bounds-rows-i
-offset_bounds-rows-i c = omega (arith, c.loop-i-test.true, c.loop-i.invariant.1)
-
-pub bounds-rows-i : goal.bounds-rows-i
-bounds-rows-i c = omega (arith, c.loop-i-test.true, c.loop-i.invariant.1)
-
-pub loop-i-smaller : goal.loop-i-smaller
-loop-i-smaller c = omega (arith, c.loop-i-test.true)
