@@ -42,6 +42,7 @@ fn is_formed(input: &[u8]) -> bool
 }
 
 // Pairs the rows with the columns, and writes who is paired and who is left.
+// The assignment's refusals get the line's numbers here and nowhere else, so that a conversion for them would be read at this place alone.
 fn pair(costs: &[f64], rows: usize, columns: usize, cost: f64, out: &mut [u8]) -> usize
     requires { (rows ≤ 64) × (columns ≤ 64) × (length costs.now ≡ 4096) }
     ensures { Wrote (roomed (length out.old) (text_of (assignment_reply (take (rows * columns) costs.now) rows columns cost (of_bits binary64 0)))) out.old result out.new }
