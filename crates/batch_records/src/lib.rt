@@ -1,11 +1,12 @@
 // A batch and its report as a C program holds them.
 #![tactic(auto)]
 
-ghost use Rattle.std.specs.Prelude.{◌≡◌, map};
+ghost use Rattle.std.specs.Prelude.{◌≡◌, ◌<◌, map};
 ghost use Rattle.batch_records.specs.Batches.{detection_of, batch_of, association_to, report_to};
 
 use detections::Detection;
 use settings::frame::FrameName;
+use std::array::from_fn;
 use types::batch::{BatchReport3D, ObservationAssociation, ObservationBatch3D};
 
 #[repr(C)]
@@ -57,6 +58,7 @@ pub struct PkReport {
     pub unmatched_track_ids: [u64; 64],
 }
 
+#[tactic(auto, unfolding(crate::specs::Batches::detection_of))]
 pub fn detection_of(d: PkDetection) -> Detection
     ensures { result ≡ detection_of d }
 {
@@ -75,15 +77,14 @@ pub fn detection_of(d: PkDetection) -> Detection
 fn detections_of(b: PkBatch) -> [Detection; 64]
     ensures { result ≡ map detection_of b.detections }
 {
-    let first = b.detections[0];
-    let mut out = [detection_of(first); 64];
-    for i in 0..64 {
-        let x = b.detections[i];
-        out[i] = detection_of(x);
-    }
-    out
+    from_fn(
+        |i| -> Detection
+            requires { i < 64 }
+        { detection_of(b.detections[i]) },
+    )
 }
 
+#[tactic(auto, unfolding(crate::specs::Batches::batch_of))]
 pub fn batch_of(b: PkBatch) -> ObservationBatch3D
     ensures { result ≡ batch_of b }
 {
@@ -99,6 +100,7 @@ pub fn batch_of(b: PkBatch) -> ObservationBatch3D
     }
 }
 
+#[tactic(auto, unfolding(crate::specs::Batches::association_to))]
 pub fn association_to(a: ObservationAssociation) -> PkAssociation
     ensures { result ≡ association_to a }
 {
@@ -119,15 +121,14 @@ pub fn association_to(a: ObservationAssociation) -> PkAssociation
 fn associations_to(r: BatchReport3D) -> [PkAssociation; 64]
     ensures { result ≡ map association_to r.associations }
 {
-    let first = r.associations[0];
-    let mut out = [association_to(first); 64];
-    for i in 0..64 {
-        let x = r.associations[i];
-        out[i] = association_to(x);
-    }
-    out
+    from_fn(
+        |i| -> PkAssociation
+            requires { i < 64 }
+        { association_to(r.associations[i]) },
+    )
 }
 
+#[tactic(auto, unfolding(crate::specs::Batches::report_to))]
 pub fn report_to(code: u32, r: BatchReport3D) -> PkReport
     ensures { result ≡ report_to code r }
 {

@@ -1,3 +1,4 @@
 pub mod Back
 pub mod Overs
 pub mod Sizes
+pub mod Made

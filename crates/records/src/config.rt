@@ -30,6 +30,7 @@ pub struct PkSettings {
     pub has_birth_persistence: u32,
 }
 
+#[tactic(auto, unfolding(crate::specs::Configs::settings_of))]
 pub fn settings_of(s: PkSettings) -> Cartesian3DTrackerConfig
     ensures { result ≡ settings_of s }
 {
@@ -59,6 +60,7 @@ pub fn settings_of(s: PkSettings) -> Cartesian3DTrackerConfig
     }
 }
 
+#[tactic(auto, unfolding(crate::specs::Configs::settings_to))]
 pub fn settings_to(s: Cartesian3DTrackerConfig) -> PkSettings
     ensures { result ≡ settings_to s }
 {

@@ -1,5 +1,5 @@
 // The whole tracker as a C program holds it: read as a tracker, and one after a call laid over it.
-ghost use Rattle.std.specs.Prelude.{◌≡◌, map};
+ghost use Rattle.std.specs.Prelude.{◌≡◌, ◌<◌, map};
 ghost use Rattle.lists.specs.Lay.{lay};
 ghost use Rattle.types.specs.States.{tracks_of};
 ghost use Rattle.records.specs.Tracks.{track_of, track_to};
@@ -7,6 +7,7 @@ ghost use Rattle.records.specs.Trackers.{tracker_of, pk_fresh, laid_over};
 
 use super::config::PkSettings;
 use super::tracks::PkTrack;
+use std::array::from_fn;
 use types::MAX_TRACKS;
 use types::track::Track3D;
 use types::tracker::{BirthCandidate, Cartesian3DTracker, SensorSequence};
@@ -31,16 +32,15 @@ pub struct PkTracker {
 fn tracks_of(t: PkTracker) -> [Track3D; 64]
     ensures { result ≡ map track_of t.tracks }
 {
-    let first = t.tracks[0];
-    let mut out = [super::tracks::track_of(first); 64];
-    for i in 0..64 {
-        let x = t.tracks[i];
-        out[i] = super::tracks::track_of(x);
-    }
-    out
+    from_fn(
+        |i| -> Track3D
+            requires { i < 64 }
+        { super::tracks::track_of(t.tracks[i]) },
+    )
 }
 
 // The tracker that a C program holds.
+#[tactic(auto, unfolding(crate::specs::Trackers::tracker_of))]
 pub fn tracker_of(t: PkTracker) -> Cartesian3DTracker
     ensures { result ≡ tracker_of t }
 {
@@ -68,6 +68,7 @@ fn tracks_over(t: PkTracker, u: Cartesian3DTracker) -> [PkTrack; 64]
 {
     let n = tables::taken(u.track_count, MAX_TRACKS);
     let mut out = t.tracks;
+    // By index: what a loop writes through `iter_mut().zip(..)` is no fact that a proof has.
     for i in 0..n {
         let x = u.tracks[i];
         out[i] = super::tracks::track_to(x);
@@ -100,6 +101,7 @@ pub fn lay_over(t: PkTracker, u: Cartesian3DTracker) -> PkTracker
 }
 
 // A tracker that has seen nothing, under settings that it takes as they are.
+#[tactic(auto, unfolding(crate::specs::Trackers::pk_fresh))]
 pub fn fresh(settings: PkSettings) -> PkTracker
     ensures { result ≡ pk_fresh settings }
 {

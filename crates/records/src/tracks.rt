@@ -44,6 +44,7 @@ fn lifecycle_of(t: PkTrack) -> TrackLifecycle
     }
 }
 
+#[tactic(auto, unfolding(crate::specs::Tracks::track_of))]
 pub fn track_of(t: PkTrack) -> Track3D
     ensures { result ≡ track_of t }
 {
@@ -62,6 +63,7 @@ pub fn track_of(t: PkTrack) -> Track3D
     }
 }
 
+#[tactic(auto, unfolding(crate::specs::Tracks::track_to))]
 pub fn track_to(t: Track3D) -> PkTrack
     ensures { result ≡ track_to t }
 {

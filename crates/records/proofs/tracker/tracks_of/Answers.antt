@@ -1,22 +1,39 @@
-use mathlib.Core.Path.{sym, ◌∙◌}
-use Prim.Native.Nat.{◌-◌}
-use native.Mathlib.Omega.{arith}
-use borrow.Author.Rules.{rules}
+use Rattle.std.proofs.Common.{◌≡◌, rules, length, pos, []}
+use Rattle.std.specs.Float.{nan}
 use Rattle.lists.proofs.Laying.{length_mapped}
+use Rattle.records.specs.declared.tracks.PkTrack.{PkTrack}
 use Rattle.records.specs.Tracks.{track_of}
-use Rattle.lists.proofs.Filling.{filled_start, filled_more, filled_all}
+use Rattle.records.proofs.Made.{made}
 use Rattle.records.proofs.tracker.tracks_of.Goals as goal
 
-pub loop-i-init : goal.loop-i-init
-loop-i-init c = (search rules, search (rules, length_mapped), search rules, filled_start track_of _ _)
-
-pub loop-i-preserved : goal.loop-i-preserved
-loop-i-preserved c =
-    let v = c.loop-i.invariant in
-    (search rules, v.1, v.2, rw c.track_of.ensures (filled_more track_of _ _ _ _ _ v.3 (omega (arith, v.1)) (omega (arith, v.2))))
+-- what code reads past the end
+abbrev no_track : PkTrack
+no_track =
+    record {
+      id = 0;
+      filter = record { state = []; covariance = [] };
+      created_at = pos 0;
+      last_observation = pos 0;
+      last_counted = pos 0;
+      state_timestamp = pos 0;
+      prior_confidence = nan;
+      sensors = record { ids = []; count = 0 };
+      lifecycle = 0;
+      has_last_observation = 0;
+      has_last_counted = 0;
+      observation_times = 0;
+      has_class = 0;
+      class_label = 0;
+      has_prior = 0;
+      prior_label = 0;
+      has_last_sensor = 0;
+      last_sensor = 0;
+      updated = 0;
+      reserved = 0;
+    }
 
 pub returns : goal.returns
 returns c =
-    let l = c.loop-i in
-    let v = l.invariant in
-    filled_all track_of _ _ _ l.i (v.1 ∙ sym v.2) v.3 (omega (arith, v.1))
+    let t = c.args.t in
+    let long : length t.tracks ≡ 64 = search (rules, length_mapped) in
+    made track_of no_track _ _ 64 t.tracks _ long (λ k b y q r. (search rules, search rules)) c.from_fn.ensures.items

@@ -1,5 +1,4 @@
 -- The loop keeps `Filled`: the tracks of u before i stand in t's first places.
-use Prim.Native.Nat.{◌-◌}
 use native.Mathlib.Omega.{arith}
 use borrow.Author.Rules.{rules}
 use Rattle.lists.proofs.Laying.{length_mapped}

@@ -1,5 +1,5 @@
 use mathlib.Core.Path.{◌≡◌}
-use Prim.Native.Nat.{◌≤◌, ◌-◌, min}
+use Prim.Native.Nat.{◌≤◌, min}
 use lib.ListN.{length}
 use Rattle.lists.proofs.Filling.{Filled}
 use Rattle.records.specs.Tracks.{track_to}
