@@ -1,21 +1,28 @@
--- A batch on the record by its parts: what a refusal of each says of the whole, and what the record and the report are where none refuses. Assumes nothing.
-use Rattle.std.specs.Prelude.{Err, Ok, Option, Result, pos, unwrap_or}
+-- A batch on the record by its parts: what a refusal of each says of the whole, what each leaves to the next, and the answer where none refuses. Assumes nothing.
+use Rattle.std.specs.Prelude.{Err, Ok, Option, Result, Some, pos, unwrap_or}
 use mathlib.Core.Path.{◌≡◌, refl, sym, ap, ◌∙◌}
-use mathlib.Core.Bool.{true, false}
+use mathlib.Core.Bool.{false}
 use mathlib.Core.List.{List, map}
-use Prim.Native.Nat.{ℕ, ◌≤◌}
+use Prim.Native.Nat.{ℕ, min, ◌≤◌}
 use native.Mathlib.Omega.{arith}
+use borrow.Author.Tests.{leb-true}
+use mir.Syntax.{w64}
+use mir.Val.{SFits, to_z, of_z}
+use mir.Facts.{to_z-of_z}
+use lib.IntN.{ℤ}
 use lib.ListN.{length, take, replicate, length-map, length-take}
 use lib.Seq.{length-take-le}
 use Rattle.number.specs.Reply.{Reply, refused, given, and_then}
 use Rattle.lists.specs.Lay.{lay}
-use Rattle.lists.specs.Each.{each_at}
+use Rattle.lists.specs.Sift.{sift}
+use Rattle.lists.specs.Each.{each, each_at}
 use Rattle.lists.proofs.Each.{each_length}
-use Rattle.lists.proofs.Laying.{lay_lay}
+use Rattle.lists.proofs.Laying.{take_lay, lay_lay}
+use Rattle.lists.proofs.Masks.{map_map}
+use Rattle.kuhn_munkres.specs.Takers.{taken_by}
 use Rattle.settings.specs.declared.Cartesian3DTrackerConfig.{Cartesian3DTrackerConfig}
 use Rattle.detections.specs.declared.Detection.{Detection}
 use Rattle.types.specs.declared.batch.ObservationBatch3D.{ObservationBatch3D}
-use Rattle.types.specs.declared.batch.BatchReport3D.{BatchReport3D}
 use Rattle.types.specs.declared.batch.ObservationAssociation.{ObservationAssociation}
 use Rattle.types.specs.declared.refusal.Refusal.{Refusal}
 use Rattle.types.specs.declared.track.Track3D.{Track3D}
@@ -24,33 +31,59 @@ use Rattle.types.specs.declared.tracker.SensorSequence.{SensorSequence}
 use Rattle.types.specs.Refusals.{number_of}
 use Rattle.types.specs.Track.{with_mark}
 use Rattle.types.specs.Batches.{batch_of, whole_report, over_report}
-use Rattle.types.specs.States.{State, state_of, sequences_of}
-use Rattle.tables.specs.Sequences.{noted, noted_in, room_for}
+use Rattle.types.specs.States.{State, state_of, sequences_of, candidates_of}
+use Rattle.tables.specs.declared.sequences.Sequences.{Sequences}
+use Rattle.tables.specs.Sequences.{noted, noted_in}
+use Rattle.tables.specs.Sequences as Sequences'
 use Rattle.batches.specs.Check.{batch_reply}
 use Rattle.calls.specs.Predict.{at_time, predicted_tracks}
 use Rattle.calls.specs.Pairing.{pair_config}
-use Rattle.calls.specs.Update.{Matched, updates, matched_with, matched}
+use Rattle.calls.specs.Update.{Column, Matched, updates, matched_with, matched}
 use Rattle.calls.specs.Births.{Births, remaining, with_candidates, confirmed_places, births_of}
 use Rattle.calls.specs.Process.{Done, associations_from, done_with, finished, process_reply}
 use Rattle.calls.proofs.Accepted.{passed, noted_room}
 use Rattle.calls.proofs.Spawning.{births_length}
-use Rattle.association.specs.Told.{mate_of, columns_from}
+use Rattle.moving.proofs.Passing.{Passed}
+use Rattle.pairing.specs.declared.Row.{Row}
+use Rattle.association.specs.Told.{mate_of, columns_from, Listed}
+use Rattle.association.proofs.Telling.{unmatched_few}
+use Rattle.association.proofs.Ties.{listed_told}
 use Rattle.matching.specs.declared.Paired.{Paired}
-use Rattle.matching.specs.Stage.{takers_for, Matches}
-use Rattle.matching.proofs.Ties.{stage_refused, stage_given}
+use Rattle.matching.specs.Stage.{takers_for, rows_taken, unmatched_in, Matches, RowsMatch}
+use Rattle.matching.proofs.Ties.{rows_matched, stage_refused, stage_given}
 use Rattle.updating.specs.declared.Update.{Update}
 use Rattle.updating.specs.Updates.{update_of, updated_or_not}
-use Rattle.birth_stage.specs.Walk.{blanks}
+use Rattle.birth_candidates.specs.declared.Candidates.{Candidates}
+use Rattle.birth_candidates.specs.Candidates.{list_of, after_aging}
+use Rattle.birth_candidates.specs.Candidates as Candidates'
+use Rattle.birth_candidates.proofs.Listing.{aged_is, aged_not}
+use Rattle.spawning.specs.declared.ruling.Places.{Places}
+use Rattle.spawning.specs.Ruling.{places_of}
 use Rattle.birth_stage.proofs.Walking.{told_length, columns_length}
 use Rattle.birth_stage.proofs.Growing.{Grows, births_grow}
 use Rattle.stages.proofs.Taking.{updates_by_mates}
-use Rattle.flags.specs.Flags.{flag}
+use Rattle.flags.specs.Flags.{flag, flagged}
 use Rattle.records.specs.declared.tracks.PkTrack.{PkTrack}
 use Rattle.records.specs.declared.tracker.PkTracker.{PkTracker}
-use Rattle.records.specs.Tracks.{track_to}
+use Rattle.records.specs.Tracks.{track_of, track_to}
 use Rattle.records.specs.Configs.{settings_of}
 use Rattle.records.specs.Trackers.{tracker_of, pk_state, pk_over}
+use Rattle.owner.specs.declared.batch.Ran.{Ran}
+use Rattle.owner.specs.Processes.{after_batch}
 use Rattle.owner.proofs.Predicting.{with_pk_tracks}
+use Rattle.owner.proofs.Carrying.{keeps_pk, moves_pk, all_refused, all_carried}
+use Rattle.owner.proofs.Reached.{unmarked, meant, meant_is, start_at, Checked, Moved, Mated, Corrected, Aged}
+use Rattle.owner.proofs.Noting.{Noted, noted_front}
+use Rattle.owner.proofs.Correcting.{steps_pk, updates_refused}
+use Rattle.owner.proofs.Bearing.{Bearing, bearing_end}
+
+-- ---- the numbers of the tracks that took none
+
+numbers_listed : {l ids : List ℕ} {count : ℕ} → Listed l ids count → ids ≡ lay (take count ids) (replicate 64 0)
+numbers_listed {l} {ids} {count} h = h.slots ∙ ap (λ (q : List ℕ). lay q (replicate 64 0)) (sym (listed_told l ids count h))
+
+few_numbers : (ts : List Track3D) (ds : List Detection) (takers : List (Option ℕ)) {ids : List ℕ} {count : ℕ} → length ts ≤ 64 → Listed (unmatched_in ts ds takers) ids count → count ≤ 64
+few_numbers ts ds takers h l = omega (arith, l.many, unmatched_few (taken_by takers ds) 0 ts, h)
 
 module _ (t : PkTracker) (b : ObservationBatch3D) where
   abbrev c : Cartesian3DTrackerConfig
@@ -65,188 +98,289 @@ module _ (t : PkTracker) (b : ObservationBatch3D) where
   abbrev reply : Reply Done
   reply = process_reply c s b
 
+  abbrev answer : Reply Ran
+  answer = after_batch t reply
+
+  refuses : {r : ℕ} → reply ≡ refused r → refused r ≡ answer
+  refuses e = sym (ap (after_batch t) e)
+
+  -- ---- the check, which the code makes of what the record means
+
   abbrev check : Reply (Unit {0})
   check = batch_reply c.frame_id s.last s.sequences b
 
-  pub check_refused : (n : ℕ) → check ≡ refused n → reply ≡ refused n
-  unfolding process_reply
-  check_refused n e = rw e
+  module _ {config : Cartesian3DTrackerConfig} {last : Option ℤ} (is : config ≡ c) (told : last ≡ flagged t.has_last_time (to_z w64 (of_z w64 t.last_time))) (fits : SFits w64 t.last_time) where
+    abbrev asked : Reply (Unit {0})
+    asked = batch_reply config.frame_id last (take t.sequence_count t.sequences) b
 
-  module _ (ok : check ≡ given tt) where
-    abbrev predicted : Reply (List Track3D)
-    predicted = predicted_tracks c b.timestamp s.tracks
+    check_is : asked ≡ check
+    unfolding state_of tracker_of sequences_of
+    check_is = rw (is, told, to_z-of_z fits)
 
-    -- stages 4 to 9
-    abbrev rest : List Track3D → Reply Done
-    rest ts = and_then (matched_with c b.sensor_id b.timestamp ds ts) (finished c s b)
+    pub check_refused : {r : ℕ} → refused r ≡ asked → refused r ≡ answer
+    unfolding process_reply
+    check_refused e = refuses (rw (sym (e ∙ check_is)))
 
+    pub checked : length t.tracks ≡ 64 → length b.observations ≡ 64 → SFits w64 b.timestamp → given tt ≡ asked → Checked t b config (to_z w64 (of_z w64 b.timestamp))
+    checked st sd z e = record { is = is; read = record { rules = ap (λ (x : Cartesian3DTrackerConfig). x.lifecycle) is; density = ap (λ (x : Cartesian3DTrackerConfig). x.accel_spectral_density) is; when = to_z-of_z z; size = st }; seen = sd; ok = sym (e ∙ check_is) }
+
+  -- ---- the tracks at the batch's time
+
+  abbrev predicted : Reply (List Track3D)
+  predicted = predicted_tracks c b.timestamp s.tracks
+
+  -- stages 4 to 9
+  abbrev rest : List Track3D → Reply Done
+  rest ts = and_then (matched_with c b.sensor_id b.timestamp ds ts) (finished c s b)
+
+  module _ {config : Cartesian3DTrackerConfig} {now : ℤ} (k : Checked t b config now) where
     by_moved : reply ≡ and_then predicted (λ ms. rest (map (with_mark false) ms))
     unfolding process_reply matched batch_of
-    by_moved = rw ok (go predicted)
+    by_moved = rw k.ok (go predicted)
       where
         go : (r : Reply (List Track3D)) → and_then (and_then r (λ ms. matched_with c b.sensor_id b.timestamp ds (map (with_mark false) ms))) (finished c s b) ≡ and_then r (λ ms. rest (map (with_mark false) ms))
         go (refused n) = refl
         go (given ms) = refl
 
-    pub move_refused : (n : ℕ) → predicted ≡ refused n → reply ≡ refused n
-    move_refused n e = by_moved ∙ ap (λ (r : Reply (List Track3D)). and_then r (λ ms. rest (map (with_mark false) ms))) e
+    pub move_refused : {all r : ℕ} → all ≡ min t.track_count 64
+        → each (moves_pk unmarked config.accel_spectral_density now) (sift (keeps_pk config.lifecycle now) (take all t.tracks)) ≡ refused r → refused r ≡ answer
+    move_refused taken e = refuses (by_moved ∙ ap (λ (r : Reply (List Track3D)). and_then r (λ ms. rest (map (with_mark false) ms))) (all_refused k.read unmarked taken e))
 
-    -- ---- the pairing, of the tracks in the first n places of an array
+    pub moved_all : {all : ℕ} {y : PkTracker} {i n : ℕ} → all ≡ min t.track_count 64 → i ≡ all → y ≡ with_pk_tracks t y.tracks → length y.tracks ≡ 64 → n ≤ 64
+        → Passed (keeps_pk config.lifecycle now) (moves_pk unmarked config.accel_spectral_density now) t.tracks y.tracks i n → Moved t b config now y n
+    moved_all {y = y} {n = n} taken h fields places few p =
+        let z = all_carried k.read unmarked taken h p in
+        let ms : List Track3D = map (with_mark false) z.tracks in
+        let slots : y.tracks ≡ lay (map track_to ms) t.tracks = z.slots ∙ ap (λ (r : List PkTrack). lay r t.tracks) (sym (map_map (with_mark false) track_to unmarked (λ x. refl) z.tracks)) in
+        let long : n ≡ length (map track_to ms) = z.count ∙ sym (length-map ms track_to ∙ length-map z.tracks (with_mark false)) in
+        record { checked = k; fields = fields; places = places; few = few; before = z.tracks; gives = z.gives; slots = slots; stored = (λ i. take (long i) (slots i)) ∙ take_lay (map track_to ms) t.tracks }
 
-    module _ (ms : List Track3D) (moves : predicted ≡ given ms) (array : List Track3D) (n : ℕ) (st : length array ≡ 64) (sd : length b.observations ≡ 64) (front : take n array ≡ map (with_mark false) ms) where
-      abbrev pub Told : Result Paired Refusal → Type 0
-      Told = Matches (pair_config c) (take n array) ds (takers_for (pair_config c) (c.recent_track_window_ns) b.timestamp (take n array) ds)
+    pub count_few : b.count ≤ 64
+    count_few = leb-true b.count 64 (passed c.frame_id s.last s.sequences b k.ok).few
 
-      by_rest : reply ≡ rest (take n array)
-      by_rest = by_moved ∙ ap (λ (r : Reply (List Track3D)). and_then r (λ ms. rest (map (with_mark false) ms))) moves ∙ ap rest (sym front)
+  -- ---- the pairing
 
-      pub pair_refused : (why : Refusal) → Told (Err why) → reply ≡ refused (number_of why)
+  module _ {config : Cartesian3DTrackerConfig} {now : ℤ} {y : PkTracker} {n : ℕ} (m : Moved t b config now y n) where
+    by_rest : reply ≡ rest (meant y n)
+    by_rest = by_moved m.checked ∙ ap (λ (r : Reply (List Track3D)). and_then r (λ ms. rest (map (with_mark false) ms))) m.gives ∙ ap rest (sym (meant_is y n m.stored))
+
+    size : length (map track_of y.tracks) ≡ 64
+    size = length-map y.tracks track_of ∙ m.places
+
+    -- what the pairing told of the rows, it told of the tracks
+    module _ {rows : List Row} (noted : Noted y.tracks rows n) where
+      abbrev Paired_so : Result Paired Refusal → Type 0
+      Paired_so = RowsMatch (pair_config config) (take n rows) ds (rows_taken (pair_config config) config.recent_track_window_ns now (take n rows) ds)
+
+      told_by : (r : Result Paired Refusal) → Paired_so r → Matches (pair_config c) (meant y n) ds (takers_for (pair_config c) c.recent_track_window_ns b.timestamp (meant y n) ds) r
+      told_by r a =
+          rows_matched (pair_config c) c.recent_track_window_ns b.timestamp (meant y n) ds (take n rows) r (noted_front y.tracks noted (omega (arith, m.few, m.places))) (rw (m.checked.is, m.checked.read.when) at a)
+
+      pub pair_refused : (why : Refusal) → Paired_so (Err why) → refused (number_of why) ≡ answer
       pair_refused why a =
-          by_rest ∙ ap (λ (r : Reply Matched). and_then r (finished c s b)) (stage_refused c b.sensor_id b.timestamp array n b.observations b.count st sd why a)
+          refuses (by_rest ∙ ap (λ (r : Reply Matched). and_then r (finished c s b)) (stage_refused c b.sensor_id b.timestamp (map track_of y.tracks) n b.observations b.count size m.checked.seen why (told_by (Err why) a)))
 
-      module _ (p : Paired) (a : Told (Ok p)) where
-        abbrev pub took : ℕ → Option Detection
-        took = mate_of p.mates b.observations
+      pub paired_by : {p : Paired} → Paired_so (Ok p) → Mated t b config now y n p
+      paired_by {p} a = record { moved = m; told = told_by (Ok p) a }
 
-        abbrev pub how : Update
-        how = update_of c b.sensor_id b.timestamp
+  -- ---- the updates
 
-        abbrev updated : Reply (List Track3D)
-        updated = each_at (λ i x. updated_or_not how x (took i)) 0 (take n array)
+  abbrev columns : Paired → List Column
+  columns p = columns_from b.count p.pairs b.observations
 
-        abbrev told : List Track3D → Matched
-        told us = record { tracks = us; columns = columns_from b.count p.pairs b.observations; unmatched = take p.unmatched_count p.unmatched }
+  abbrev told : Paired → List Track3D → Matched
+  told p us = record { tracks = us; columns = columns p; unmatched = take p.unmatched_count p.unmatched }
 
-        few : length (take n array) ≤ 64
-        few = let q = length-take n array in omega arith
+  module _ {config : Cartesian3DTrackerConfig} {now : ℤ} {y : PkTracker} {n : ℕ} {p : Paired} (m : Mated t b config now y n p) where
+    abbrev took : ℕ → Option Detection
+    took = mate_of p.mates b.observations
 
-        by_updated : reply ≡ and_then updated (λ us. finished c s b (told us))
-        by_updated =
-            by_rest
-            ∙ ap (λ (r : Reply Matched). and_then r (finished c s b)) (stage_given c b.sensor_id b.timestamp array n b.observations b.count st sd p a)
-            ∙ go (updates c b.sensor_id b.timestamp took (take n array))
-            ∙ ap (λ (r : Reply (List Track3D)). and_then r (λ us. finished c s b (told us)))
-            (sym (updates_by_mates c b.sensor_id b.timestamp (take n array) few b.observations b.count sd p a (passed c.frame_id s.last s.sequences b ok).detections))
-          where
-            go : (r : Reply (List Track3D)) → and_then (and_then r (λ us. given (told us))) (finished c s b) ≡ and_then r (λ us. finished c s b (told us))
-            go (refused k) = refl
-            go (given us) = refl
+    abbrev updated : Reply (List Track3D)
+    updated = each_at (λ i x. updated_or_not (update_of c b.sensor_id b.timestamp) x (took i)) 0 (meant y n)
 
-        pub update_refused : (k : ℕ) → updated ≡ refused k → reply ≡ refused k
-        update_refused k e = by_updated ∙ ap (λ (r : Reply (List Track3D)). and_then r (λ us. finished c s b (told us))) e
+    few : length (meant y n) ≤ 64
+    few = let q = length-take n (map track_of y.tracks) in omega (arith, size m.moved)
 
-        -- ---- the births
+    by_updated : reply ≡ and_then updated (λ us. finished c s b (told p us))
+    by_updated =
+        by_rest m.moved
+        ∙ ap (λ (r : Reply Matched). and_then r (finished c s b)) (stage_given c b.sensor_id b.timestamp (map track_of y.tracks) n b.observations b.count (size m.moved) m.moved.checked.seen p m.told)
+        ∙ go (updates c b.sensor_id b.timestamp took (meant y n))
+        ∙ ap (λ (r : Reply (List Track3D)). and_then r (λ us. finished c s b (told p us)))
+        (sym (updates_by_mates c b.sensor_id b.timestamp (meant y n) few b.observations b.count m.moved.checked.seen p m.told (passed c.frame_id s.last s.sequences b m.moved.checked.ok).detections))
+      where
+        go : (r : Reply (List Track3D)) → and_then (and_then r (λ us. given (told p us))) (finished c s b) ≡ and_then r (λ us. finished c s b (told p us))
+        go (refused k) = refl
+        go (given us) = refl
 
-        module _ (us : List Track3D) (given_they : updated ≡ given us) where
-          abbrev ages : Reply (List BirthCandidate)
-          ages = remaining c.birth_candidate_timeout_ns b.timestamp s.candidates
+    pub update_refused : {u : Update} {r : ℕ} → u ≡ update_of config b.sensor_id now → each_at (steps_pk u took) 0 (take n y.tracks) ≡ refused r → refused r ≡ answer
+    update_refused how e = refuses (by_updated ∙ ap (λ (r : Reply (List Track3D)). and_then r (λ us. finished c s b (told p us))) (updates_refused m how e))
 
-          abbrev pub start : List BirthCandidate → State
-          start l = with_candidates l (at_time b.timestamp us s)
+  -- ---- the candidates' ages
 
-          abbrev born : List BirthCandidate → Reply Births
-          born l = births_of c b.sensor_id b.timestamp (confirmed_places us) (told us).columns (start l)
+  abbrev born : Paired → List Track3D → List BirthCandidate → Reply Births
+  born p us l = births_of c b.sensor_id b.timestamp (confirmed_places us) (columns p) (with_candidates l (at_time b.timestamp us s))
 
-          by_ages : reply ≡ and_then ages (λ l. and_then (born l) (λ w. given (done_with b (told us) w)))
-          unfolding finished
-          by_ages = by_updated ∙ ap (λ (r : Reply (List Track3D)). and_then r (λ us. finished c s b (told us))) given_they
+  abbrev joining : Paired → List Track3D → Reply (List BirthCandidate) → Reply Done
+  joining p us r = and_then r (λ l. and_then (born p us l) (λ w. given (done_with b (told p us) w)))
 
-          pub age_refused : (k : ℕ) → ages ≡ refused k → reply ≡ refused k
-          age_refused k e = by_ages ∙ ap (λ (r : Reply (List BirthCandidate)). and_then r (λ l. and_then (born l) (λ w. given (done_with b (told us) w)))) e
+  abbrev ages : Reply (List BirthCandidate)
+  ages = remaining c.birth_candidate_timeout_ns b.timestamp s.candidates
 
-          module _ (l : List BirthCandidate) (stay : ages ≡ given l) where
-            by_births : reply ≡ and_then (born l) (λ w. given (done_with b (told us) w))
-            by_births = by_ages ∙ ap (λ (r : Reply (List BirthCandidate)). and_then r (λ l. and_then (born l) (λ w. given (done_with b (told us) w)))) stay
+  module _ {config : Cartesian3DTrackerConfig} {now : ℤ} {n : ℕ} {p : Paired} {x : PkTracker} {places : Places} (u : Corrected t b config now n p x places) where
+    by_ages : reply ≡ joining p u.tracks ages
+    unfolding finished
+    by_ages = by_updated u.mated ∙ ap (λ (r : Reply (List Track3D)). and_then r (λ us. finished c s b (told p us))) u.gives
 
-            pub births_refused : (k : ℕ) → born l ≡ refused k → reply ≡ refused k
-            births_refused k e = by_births ∙ ap (λ (r : Reply Births). and_then r (λ w. given (done_with b (told us) w))) e
+    -- the record has the candidates that it had
+    abbrev held : Candidates
+    held = record { items = x.candidates; count = x.candidate_count }
 
-            -- ---- all of it
+    abbrev ages_now : Reply (List BirthCandidate)
+    ages_now = remaining config.birth_candidate_timeout_ns now (list_of held)
 
-            module _ (w : Births) (bears : born l ≡ given w) where
-              abbrev done : Done
-              done = done_with b (told us) w
+    ages_are : ages_now ≡ ages
+    unfolding list_of state_of tracker_of candidates_of
+    ages_are = let k = u.mated.moved.checked in λ i. remaining (k.is i).birth_candidate_timeout_ns (k.read.when i) (take (u.fields i).candidate_count (u.fields i).candidates)
 
-              pub batch_given : reply ≡ given done
-              batch_given = by_births ∙ ap (λ (r : Reply Births). and_then r (λ w. given (done_with b (told us) w))) bears
+    pub age_refused : {r : ℕ} → refused r ≡ after_aging held ages_now → refused r ≡ answer
+    age_refused {r} e = refuses (by_ages ∙ ap (joining p u.tracks) (sym ages_are ∙ aged_not held r ages_now e))
 
-              grown : Grows (start l) w.state
-              grown = births_grow c b.sensor_id b.timestamp (confirmed_places us) (told us).columns (start l) w bears
+    pub aged_by : {kept : Candidates} → given kept ≡ after_aging held ages_now → Aged t b config now n p x places kept
+    aged_by {kept} e = record { corrected = u; stay = sym ages_are ∙ aged_is held kept ages_now e }
 
-              same_count : length us ≡ length (map (with_mark false) ms)
-              same_count = each_length (λ i x. updated_or_not how x (took i)) 0 (take n array) us given_they ∙ ap length front
+  -- ---- the births
 
-              -- the record with everything in its place
-              abbrev held : PkTracker → List PkTrack → ℕ → ℕ → List SensorSequence → ℕ → List BirthCandidate → ℕ → PkTracker
-              held x m k id entries q items j =
-                  record {
-                    tracks = m;
-                    track_count = k;
-                    next_track_id = id;
-                    last_time = b.timestamp;
-                    sequences = entries;
-                    sequence_count = q;
-                    candidates = items;
-                    candidate_count = j;
-                    settings = x.settings;
-                    has_last_time = 1;
-                    reserved = x.reserved;
-                  }
+  module _ {config : Cartesian3DTrackerConfig} {now : ℤ} {n : ℕ} {p : Paired} {x : PkTracker} {places : Places} {kept : Candidates} (a : Aged t b config now n p x places kept) where
+    abbrev start : State
+    start = start_at x n x.next_track_id now (list_of kept)
 
-              pub batch_whole : (x : PkTracker) (m₁ m₂ m₃ : List PkTrack) (k id q j : ℕ) (entries : List SensorSequence) (items : List BirthCandidate) → x ≡ with_pk_tracks t x.tracks
-                  → m₁ ≡ lay (map track_to (map (with_mark false) ms)) t.tracks → m₂ ≡ lay (map track_to us) m₁ → m₃ ≡ lay (map track_to w.state.tracks) m₂ → k ≡ length w.state.tracks → id ≡ w.state.next
-                  → entries ≡ lay (noted_in 32 b.sensor_id b.sequence (take t.sequence_count t.sequences)) t.sequences → q ≡ length (noted_in 32 b.sensor_id b.sequence (take t.sequence_count t.sequences))
-                  → items ≡ lay w.state.candidates t.candidates → j ≡ length w.state.candidates
-                  → held x m₃ k id entries q items j ≡ pk_over t done.state
-              unfolding pk_over done_with state_of sequences_of tracker_of
-              batch_whole x m₁ m₂ m₃ k id q j entries items ex e₁ e₂ e₃ ek ei ee eq em ej =
-                  let ts = w.state.tracks in
-                  let g : length us ≤ length ts = grown.tracks in
-                  let longer : (r : List Track3D) → length r ≤ length ts → length (map track_to r) ≤ length (map track_to ts) = λ r h. omega (arith, length-map r track_to, length-map ts track_to) in
-                  let laid : m₃ ≡ lay (map track_to ts) t.tracks =
-                  e₃ ∙ ap (λ (r : List PkTrack). lay (map track_to ts) r) e₂ ∙ lay_lay (map track_to ts) (map track_to us) m₁ (longer us g)
-                  ∙ ap (λ (r : List PkTrack). lay (map track_to ts) r) e₁ ∙ lay_lay (map track_to ts) (map track_to (map (with_mark false) ms)) t.tracks (longer (map (with_mark false) ms) (omega (arith, same_count, g))) in
-                  let room : room_for 32 b.sensor_id s.sequences ≡ true = (passed c.frame_id s.last s.sequences b ok).room in
-                  let kept : noted_in 32 b.sensor_id b.sequence s.sequences ≡ noted b.sensor_id b.sequence w.state.sequences =
-                  noted_room b.sensor_id b.sequence s.sequences room ∙ ap (noted b.sensor_id b.sequence) (sym grown.sequences) in
-                  ap (λ (y : PkTracker). held y m₃ k id entries q items j) ex
-                  ∙ (λ i. record {
-                    tracks = laid i;
-                    track_count = (ek ∙ sym (length-map ts track_to)) i;
-                    next_track_id = ei i;
-                    last_time = unwrap_or ((sym grown.last i)) (pos 0);
-                    sequences = (ee ∙ ap (λ (r : List SensorSequence). lay r t.sequences) kept) i;
-                    sequence_count = (eq ∙ ap length kept) i;
-                    candidates = em i;
-                    candidate_count = ej i;
-                    settings = t.settings;
-                    has_last_time = flag ((sym grown.last i));
-                    reserved = t.reserved;
-                  })
+    abbrev begin : State
+    begin = with_candidates (list_of kept) (at_time b.timestamp a.corrected.tracks s)
 
-              abbrev report : List ObservationAssociation → BatchReport3D
-              report associations =
-                  record {
-                    timestamp = b.timestamp;
-                    sensor_id = b.sensor_id;
-                    associations = associations;
-                    association_count = b.count;
-                    unmatched_track_ids = p.unmatched;
-                    unmatched_track_count = p.unmatched_count;
-                  }
+    start_is : start ≡ begin
+    unfolding state_of tracker_of sequences_of
+    start_is =
+        let u = a.corrected in
+        λ i. record {
+          tracks = meant_is x n u.stored i;
+          next = (u.fields i).next_track_id;
+          last = Some (u.mated.moved.checked.read.when i);
+          sequences = take (u.fields i).sequence_count (u.fields i).sequences;
+          candidates = list_of kept;
+        }
 
-              pub batch_reported : (associations : List ObservationAssociation) → b.count ≤ 64 → length p.pairs ≡ 64 → length p.unmatched ≡ 64 → p.unmatched_count ≤ 64
-                  → p.unmatched ≡ lay (take p.unmatched_count p.unmatched) (replicate 64 0) → associations ≡ lay (associations_from 0 w.fates) blanks → report associations ≡ whole_report done.report
-              unfolding done_with whole_report over_report
-              batch_reported associations few sp si sk e a =
-                  let many : length w.fates ≡ length (told us).columns = births_length c b.sensor_id b.timestamp (confirmed_places us) (told us).columns (start l) w bears in
-                  let r : b.count ≡ length (associations_from 0 w.fates) = sym (told_length 0 w.fates ∙ many ∙ columns_length p.pairs b.observations b.count b.count sp sd (omega arith)) in
-                  let k : p.unmatched_count ≡ length (take p.unmatched_count p.unmatched) = sym (length-take-le p.unmatched_count p.unmatched (omega arith)) in
-                  λ i. record {
-                    timestamp = b.timestamp;
-                    sensor_id = b.sensor_id;
-                    associations = a i;
-                    association_count = r i;
-                    unmatched_track_ids = e i;
-                    unmatched_track_count = k i;
-                  }
+    by_births : reply ≡ and_then (births_of config b.sensor_id now (places_of places) (columns p) start) (λ w. given (done_with b (told p a.corrected.tracks) w))
+    by_births =
+        let k = a.corrected.mated.moved.checked in
+        by_ages a.corrected
+        ∙ ap (joining p a.corrected.tracks) a.stay
+        ∙ (λ i. and_then (births_of (sym k.is i) b.sensor_id (sym k.read.when i) (sym a.corrected.spots i) (columns p) (sym start_is i)) (λ w. given (done_with b (told p a.corrected.tracks) w)))
+
+    pub births_refused : {r : ℕ} → births_of config b.sensor_id now (places_of places) (columns p) start ≡ refused r → refused r ≡ answer
+    births_refused e = refuses (by_births ∙ ap (λ (r : Reply Births). and_then r (λ w. given (done_with b (told p a.corrected.tracks) w))) e)
+
+    -- ---- the end, where the loop over the detections left the record z
+
+    module _ {z : PkTracker} {n' id : ℕ} {kept' : Candidates} {associations : List ObservationAssociation} {j : ℕ}
+        (w : Bearing config b.sensor_id now (places_of places) (columns p) start x.tracks z.tracks n' id kept' associations j) (over : b.count ≤ j) (fields : z ≡ with_pk_tracks x z.tracks)
+        (sp : length p.pairs ≡ 64) (su : length p.unmatched ≡ 64) where
+      abbrev u : Corrected t b config now n p x places
+      u = a.corrected
+
+      abbrev m : Mated t b config now u.from n p
+      m = u.mated
+
+      abbrev k : Checked t b config now
+      k = m.moved.checked
+
+      abbrev e : Births
+      e = w.so_far
+
+      abbrev done : Done
+      done = done_with b (told p u.tracks) e
+
+      bears : births_of config b.sensor_id now (places_of places) (columns p) start ≡ given e
+      bears = bearing_end p.pairs b.observations w (count_few k) sp k.seen over
+
+      grown : Grows start e.state
+      grown = births_grow config b.sensor_id now (places_of places) (columns p) start e bears
+
+      -- each store lies over the one before it
+      laid : z.tracks ≡ lay (map track_to e.state.tracks) t.tracks
+      laid =
+          let ts = e.state.tracks in
+          let ms = map (with_mark false) m.moved.before in
+          let g : length (meant x n) ≤ length ts = grown.tracks in
+          let us : length u.tracks ≡ length (meant x n) = ap length (sym (meant_is x n u.stored)) in
+          let vs : length u.tracks ≡ length ms = each_length _ 0 (meant u.from n) u.tracks u.gives ∙ ap length (meant_is u.from n m.moved.stored) in
+          let longer : (r : List Track3D) → length r ≤ length ts → length (map track_to r) ≤ length (map track_to ts) = λ r h. omega (arith, length-map r track_to, length-map ts track_to) in
+          w.tracks
+          ∙ ap (lay (map track_to ts)) u.slots ∙ lay_lay (map track_to ts) (map track_to u.tracks) u.from.tracks (longer u.tracks (omega (arith, us, g)))
+          ∙ ap (lay (map track_to ts)) m.moved.slots ∙ lay_lay (map track_to ts) (map track_to ms) t.tracks (longer ms (omega (arith, us, vs, g)))
+
+      pub batch_done : {table : Sequences} {left : Candidates} → table ≡ Sequences'.over (record { entries = t.sequences; count = z.sequence_count }) (noted_in 32 b.sensor_id b.sequence (take z.sequence_count t.sequences))
+          → left ≡ Candidates'.over (record { items = x.candidates; count = x.candidate_count }) (list_of kept')
+          → given (record {
+            tracker =
+                record {
+                  tracks = z.tracks;
+                  track_count = n';
+                  next_track_id = id;
+                  last_time = now;
+                  sequences = table.entries;
+                  sequence_count = table.count;
+                  candidates = left.items;
+                  candidate_count = left.count;
+                  settings = z.settings;
+                  has_last_time = 1;
+                  reserved = z.reserved;
+                };
+            report =
+                record {
+                  timestamp = now;
+                  sensor_id = b.sensor_id;
+                  associations = associations;
+                  association_count = b.count;
+                  unmatched_track_ids = p.unmatched;
+                  unmatched_track_count = p.unmatched_count;
+                };
+          })
+          ≡ answer
+      unfolding pk_over done_with state_of sequences_of tracker_of whole_report over_report
+      batch_done {table} {left} table_is left_is =
+          let whole : z ≡ with_pk_tracks t z.tracks = fields ∙ ap (λ (y : PkTracker). with_pk_tracks y z.tracks) u.fields in
+          let last : Some now ≡ e.state.last = sym grown.last in
+          let rest : noted_in 32 b.sensor_id b.sequence (take z.sequence_count t.sequences) ≡ noted b.sensor_id b.sequence e.state.sequences =
+          ap (λ (y : PkTracker). noted_in 32 b.sensor_id b.sequence (take y.sequence_count t.sequences)) whole
+          ∙ noted_room b.sensor_id b.sequence s.sequences (passed c.frame_id s.last s.sequences b k.ok).room
+          ∙ ap (noted b.sensor_id b.sequence) (ap (λ (q : State). q.sequences) (sym start_is) ∙ sym grown.sequences) in
+          let many : length e.fates ≡ length (columns p) = births_length config b.sensor_id now (places_of places) (columns p) start e bears in
+          let r : b.count ≡ length (associations_from 0 e.fates) = sym (told_length 0 e.fates ∙ many ∙ columns_length p.pairs b.observations b.count b.count sp k.seen (omega (arith, count_few k))) in
+          let most : p.unmatched_count ≤ 64 = few_numbers (meant u.from n) ds m.told.takers (few m) m.told.unmatched in
+          (λ i. given (record {
+            tracker =
+                record {
+                  tracks = laid i;
+                  track_count = (w.count ∙ sym (length-map e.state.tracks track_to)) i;
+                  next_track_id = w.next i;
+                  last_time = unwrap_or (last i) (pos 0);
+                  sequences = (ap (λ (q : Sequences). q.entries) table_is ∙ ap (λ (l : List SensorSequence). lay l t.sequences) rest) i;
+                  sequence_count = (ap (λ (q : Sequences). q.count) table_is ∙ ap length rest) i;
+                  candidates = (ap (λ (q : Candidates). q.items) left_is ∙ (λ i. lay (sym w.candidates i) (u.fields i).candidates)) i;
+                  candidate_count = (ap (λ (q : Candidates). q.count) left_is ∙ ap length (sym w.candidates)) i;
+                  settings = (whole i).settings;
+                  has_last_time = flag (last i);
+                  reserved = (whole i).reserved;
+                };
+            report =
+                record {
+                  timestamp = k.read.when i;
+                  sensor_id = b.sensor_id;
+                  associations = w.slots i;
+                  association_count = r i;
+                  unmatched_track_ids = numbers_listed m.told.unmatched i;
+                  unmatched_track_count = sym (length-take-le p.unmatched_count p.unmatched (omega (arith, most, su))) i;
+                };
+          }))
+          ∙ sym (ap (after_batch t) (by_births ∙ ap (λ (q : Reply Births). and_then q (λ w. given (done_with b (told p u.tracks) w))) bears))

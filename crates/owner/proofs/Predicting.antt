@@ -1,8 +1,12 @@
 -- What the prediction of the record answers: refused before it begins, by a track, or carried out. Assumes nothing.
+use Rattle.std.specs.Prelude.{Option}
 use mathlib.Core.Path.{◌≡◌, refl, sym, ap, ◌∙◌}
 use mathlib.Core.Bool.{Bool, true, false}
-use mathlib.Core.List.{List, map}
+use mathlib.Core.List.{List}
 use Prim.Native.Nat.{ℕ, min, ◌<◌}
+use mir.Syntax.{w64}
+use mir.Val.{SFits, to_z, of_z}
+use mir.Facts.{to_z-of_z}
 use native.Mathlib.Omega.{arith}
 use lib.IntN.{ℤ}
 use lib.Ieee.{Float}
@@ -10,10 +14,10 @@ use lib.ListN.{length, take, length-map}
 use Rattle.number.specs.Reply.{Reply, refused, given, and_then}
 use Rattle.lists.specs.Sift.{sift}
 use Rattle.lists.specs.Each.{each}
-use Rattle.lists.specs.Lay.{lay}
 use Rattle.lists.proofs.Laying.{lay_own}
 use Rattle.lists.proofs.Tables.{rows, rows_length}
 use Rattle.lifecycle.specs.declared.LifecycleConfig.{LifecycleConfig}
+use Rattle.settings.specs.declared.Cartesian3DTrackerConfig.{Cartesian3DTrackerConfig}
 use Rattle.types.specs.declared.track.Track3D.{Track3D}
 use Rattle.types.specs.declared.refusal.Refusal.{Refusal}
 use Rattle.types.specs.declared.refusal.Refusal.TheVariants as refusal
@@ -29,7 +33,7 @@ use Rattle.records.specs.Configs.{settings_of}
 use Rattle.records.specs.Trackers.{tracker_of, pk_state, pk_over}
 use Rattle.moving.proofs.Passing.{Passed}
 use Rattle.owner.specs.Owner.{after_call}
-use Rattle.owner.proofs.Carrying.{keeps_pk, moves_pk, all_refused, all_carried}
+use Rattle.owner.proofs.Carrying.{Read, keeps_pk, moves_pk, all_refused, all_carried}
 
 -- the record with other tracks in its places
 abbrev pub with_pk_tracks : PkTracker → List PkTrack → PkTracker
@@ -62,76 +66,84 @@ number_above refusal.AssignmentFailed = omega arith
 number_above refusal.TooMany = omega arith
 number_above refusal.InvalidPrior = omega arith
 
-module _ (t : PkTracker) (now : ℤ) (st : length t.tracks ≡ 64) (ss : length t.sequences ≡ 32) (sk : length t.candidates ≡ 64) where
-  abbrev late : Bool
-  late = is_before (pk_state t).last now
+module _ (t : PkTracker) (now : ℤ) where
+  abbrev s : State
+  s = pk_state t
 
-  abbrev reply : Reply State
-  reply = predict_reply (settings_of t.settings) (pk_state t) now
+  abbrev answer : ℤ → Reply PkTracker
+  answer time = after_call t (predict_reply (settings_of t.settings) s time)
 
-  -- the last time that the record means
-  pub last_held : (pk_state t).last ≡ (flagged t.has_last_time t.last_time)
-  unfolding state_of tracker_of
-  last_held = refl
+  -- the settings and the time are read, and the time is not before the last one
+  pub record Begun (life : LifecycleConfig) (q : Float) : Type 0 where
+    pub read : Read t now life q now
+    pub sequences : length t.sequences ≡ 32
+    pub candidates : length t.candidates ≡ 64
+    pub soon : is_before s.last now ≡ false
 
-  pub too_early : late ≡ true → refused 3 ≡ after_call t reply
-  unfolding predict_reply
-  too_early e = rw e
+  -- the code compares it with the last time that the record means
+  module _ {last : Option ℤ} {late : Bool} (told : last ≡ flagged t.has_last_time (to_z w64 (of_z w64 t.last_time))) (fits : SFits w64 t.last_time) (tested : late ≡ is_before last now) where
+    late_is : late ≡ is_before s.last now
+    unfolding state_of tracker_of
+    late_is = rw (told, to_z-of_z fits) at tested
 
-  by_tracks : late ≡ false → reply ≡ and_then (predicted_tracks (settings_of t.settings) now (pk_state t).tracks) (λ ts. given (at_time now ts (pk_state t)))
-  unfolding predict_reply
-  by_tracks e = rw e
+    pub too_early : {time : ℤ} → now ≡ time → late ≡ true → refused 3 ≡ answer time
+    unfolding predict_reply
+    too_early when e = rw (← when, sym late_is ∙ e)
 
-  -- the record that the loop left, at the time
-  abbrev timed : PkTracker → ℕ → ℕ → ℕ → PkTracker
-  timed s j c k =
-      record {
-        tracks = s.tracks;
-        track_count = j;
-        next_track_id = s.next_track_id;
-        last_time = now;
-        sequences = s.sequences;
-        sequence_count = c;
-        candidates = s.candidates;
-        candidate_count = k;
-        settings = s.settings;
-        has_last_time = 1;
-        reserved = s.reserved;
-      }
+    pub begun : {config : Cartesian3DTrackerConfig} → config ≡ settings_of t.settings → length t.tracks ≡ 64 → length t.sequences ≡ 32 → length t.candidates ≡ 64 → late ≡ false → Begun config.lifecycle config.accel_spectral_density
+    begun is size ss sk e =
+        record {
+          read = record { rules = ap (λ (x : Cartesian3DTrackerConfig). x.lifecycle) is; density = ap (λ (x : Cartesian3DTrackerConfig). x.accel_spectral_density) is; when = refl; size = size };
+          sequences = ss;
+          candidates = sk;
+          soon = sym late_is ∙ e;
+        }
 
-  whole : (s : PkTracker) (j c k : ℕ) (ts : List Track3D) → s ≡ with_pk_tracks t s.tracks → c ≡ min t.sequence_count 32 → k ≡ min t.candidate_count 64
-      → j ≡ length ts → s.tracks ≡ lay (map track_to ts) t.tracks → timed s j c k ≡ pk_over t (at_time now ts (pk_state t))
-  unfolding pk_over state_of sequences_of candidates_of tracker_of
-  whole s j c k ts e ec ek ej em =
-      ap (λ (x : PkTracker). timed x j c k) e
-      ∙ (λ i. record {
-        tracks = em i;
-        track_count = (ej ∙ sym (length-map ts track_to)) i;
-        next_track_id = t.next_track_id;
-        last_time = now;
-        sequences = sym (lay_own t.sequence_count t.sequences) i;
-        sequence_count = (ec ∙ sym (ap length (rows t.sequences 32 t.sequence_count c ss ec) ∙ rows_length t.sequences 32 t.sequence_count c ss ec ∙ ec)) i;
-        candidates = sym (lay_own t.candidate_count t.candidates) i;
-        candidate_count = (ek ∙ sym (ap length (rows t.candidates 64 t.candidate_count k sk ek) ∙ rows_length t.candidates 64 t.candidate_count k sk ek ∙ ek)) i;
-        settings = t.settings;
-        has_last_time = 1;
-        reserved = t.reserved;
-      })
+  module _ {life : LifecycleConfig} {q : Float} (k : Begun life q) {time : ℤ} (when : now ≡ time) where
+    answers : {r : Reply (List Track3D)} → predicted_tracks (settings_of t.settings) now s.tracks ≡ r → and_then r (λ ts. given (pk_over t (at_time now ts s))) ≡ answer time
+    unfolding predict_reply
+    answers e = rw (← when, k.soon, e) (go _)
+      where
+        go : (r : Reply (List Track3D)) → and_then r (λ ts. given (pk_over t (at_time now ts s))) ≡ after_call t (and_then r (λ ts. given (at_time now ts s)))
+        go (refused n) = refl
+        go (given ts) = refl
 
-  abbrev life : LifecycleConfig
-  life = (settings_of t.settings).lifecycle
+    pub track_refused : {all r : ℕ} → all ≡ min t.track_count 64 → each (moves_pk track_to q now) (sift (keeps_pk life now) (take all t.tracks)) ≡ refused r → refused r ≡ answer time
+    track_refused taken e = answers (all_refused k.read track_to taken e)
 
-  abbrev density : Float
-  density = (settings_of t.settings).accel_spectral_density
-
-  module _ (soon : late ≡ false) (all : ℕ) (taken : all ≡ min t.track_count 64) where
-    pub track_refused : (k : ℕ) → each (moves_pk life density now (λ r. r)) (sift (keeps_pk life density now) (take all t.tracks)) ≡ refused k → refused k ≡ after_call t reply
-    track_refused k r =
-        sym (ap (after_call t) (by_tracks soon ∙ ap (λ (r : Reply (List Track3D)). and_then r (λ ts. given (at_time now ts (pk_state t)))) (all_refused t now all st taken k r)))
-
-    pub all_at_time : (s : PkTracker) (i j c k : ℕ) → i ≡ all → s ≡ with_pk_tracks t s.tracks → c ≡ min t.sequence_count 32 → k ≡ min t.candidate_count 64
-        → Passed (keeps_pk life density now) (moves_pk life density now (λ r. r)) t.tracks s.tracks i j → given (timed s j c k) ≡ after_call t reply
-    all_at_time s i j c k h e ec ek p =
-        let z = all_carried t now all st taken s.tracks i j h p in
-        ap given (whole s j c k z.tracks e ec ek z.count z.slots)
-        ∙ sym (ap (after_call t) (by_tracks soon ∙ ap (λ (r : Reply (List Track3D)). and_then r (λ ts. given (at_time now ts (pk_state t)))) z.gives))
+    -- the record that the loop left, at the time
+    pub all_at_time : (x : PkTracker) {all i j n d : ℕ} → all ≡ min t.track_count 64 → i ≡ all → x ≡ with_pk_tracks t x.tracks → n ≡ min x.sequence_count 32 → d ≡ min x.candidate_count 64
+        → Passed (keeps_pk life now) (moves_pk track_to q now) t.tracks x.tracks i j
+        → given (record {
+          tracks = x.tracks;
+          track_count = j;
+          next_track_id = x.next_track_id;
+          last_time = now;
+          sequences = x.sequences;
+          sequence_count = n;
+          candidates = x.candidates;
+          candidate_count = d;
+          settings = x.settings;
+          has_last_time = 1;
+          reserved = x.reserved;
+        })
+        ≡ answer time
+    unfolding pk_over state_of sequences_of candidates_of tracker_of
+    all_at_time x {n = n} {d = d} taken h e en ed p =
+        let z = all_carried k.read track_to taken h p in
+        let ns : n ≡ min t.sequence_count 32 = en ∙ ap (λ (y : PkTracker). min y.sequence_count 32) e in
+        let ds : d ≡ min t.candidate_count 64 = ed ∙ ap (λ (y : PkTracker). min y.candidate_count 64) e in
+        (λ i. given (record {
+          tracks = z.slots i;
+          track_count = (z.count ∙ sym (length-map z.tracks track_to)) i;
+          next_track_id = (e i).next_track_id;
+          last_time = now;
+          sequences = (ap (λ (y : PkTracker). y.sequences) e ∙ sym (lay_own t.sequence_count t.sequences)) i;
+          sequence_count = (ns ∙ sym (ap length (rows t.sequences 32 t.sequence_count n k.sequences ns) ∙ rows_length t.sequences 32 t.sequence_count n k.sequences ns ∙ ns)) i;
+          candidates = (ap (λ (y : PkTracker). y.candidates) e ∙ sym (lay_own t.candidate_count t.candidates)) i;
+          candidate_count = (ds ∙ sym (ap length (rows t.candidates 64 t.candidate_count d k.candidates ds) ∙ rows_length t.candidates 64 t.candidate_count d k.candidates ds ∙ ds)) i;
+          settings = (e i).settings;
+          has_last_time = 1;
+          reserved = (e i).reserved;
+        }))
+        ∙ answers z.gives
