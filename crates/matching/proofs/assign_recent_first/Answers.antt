@@ -10,7 +10,7 @@ use mir.Facts.{to_z-of_z}
 use native.Mathlib.Omega.{arith}
 use borrow.Author.Rules.{rules}
 use Rattle.lists.proofs.Laying.{length_mapped}
-use Rattle.matching.proofs.Taking.{laid_long, recent_done, recent_stops}
+use Rattle.matching.proofs.Taking.{recent_done, recent_stops}
 use Rattle.matching.proofs.assign_recent_first.Goals as goal
 
 -- the takers' array is whole
@@ -19,10 +19,6 @@ sized l e = ap length e ∙ length-replicate {A = ℕ} 64 64
 
 rows_long : {A : Type 0} (rows : List A) (n : ℕ) → length rows ≡ 64 → n ≤ 64 → length (take n rows) ≡ n
 rows_long rows n e h = length-take-le n rows (omega arith)
-
-pub pair_cascade-requires : goal.pair_cascade-requires
-pair_cascade-requires c =
-    (c.requires.0, laid_long _ _ _ _ _ c.mark_recent.ensures, c.requires.1, sized _ c.requires.1)
 
 pub returns : goal.returns
 returns c =
