@@ -6,16 +6,12 @@ use mathlib.Core.Path.{◌≡◌, ap, ◌∙◌}
 use Prim.Native.Nat.{ℕ}
 use lib.ListN.{length, replicate, length-replicate}
 use mir.Facts.{to_z-of_z}
-use Rattle.matching.proofs.Taking.{laid_long, recent_done, recent_stops}
+use Rattle.matching.proofs.Taking.{recent_done, recent_stops}
 use Rattle.matching.proofs.assign_recent_first.Goals as goal
 
 -- the takers' array is whole
 sized : (l : List ℕ) → l ≡ replicate 64 64 → length l ≡ 64
 sized l e = ap length e ∙ length-replicate {A = ℕ} 64 64
-
-pub pair_cascade-requires : goal.pair_cascade-requires
-pair_cascade-requires c =
-    (c.requires.0, laid_long _ _ _ _ _ c.mark_recent.ensures, c.requires.2, sized _ c.requires.2)
 
 pub returns : goal.returns
 returns c =
