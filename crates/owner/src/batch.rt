@@ -1,18 +1,11 @@
 // A batch on the record that a C program holds.
-ghost use Rattle.std.specs.Prelude.{◌≡◌, cond, ltb, take};
+ghost use Rattle.std.specs.Prelude.{◌≡◌, cond, ltb};
 ghost use Rattle.number.specs.Reply.{reply_by};
 ghost use Rattle.types.specs.Refusals.{number_of};
-ghost use Rattle.calls.specs.Pairing.{pair_config};
-ghost use Rattle.matching.specs.Stage.{rows_taken, RowsMatch};
 ghost use Rattle.owner.specs.Processes.{batch_reply_on, after_batch};
 
 use birth_candidates::Candidates;
-use detections::Detection;
-use detections::pairs::PairConfig;
-use matching::Paired;
-use pairing::Row;
 use records::tracker::PkTracker;
-use settings::Cartesian3DTrackerConfig;
 use spawning::ruling::Places;
 use tables::sequences::Sequences;
 use types::batch::{BatchReport3D, ObservationBatch3D};
@@ -31,25 +24,6 @@ fn place_of(j: usize) -> usize
     ensures { result ≡ cond (ltb j 64) j 0 }
 {
     if j < MAX_OBSERVATIONS { j } else { 0 }
-}
-
-// The pairing of the first n rows with the first m detections, under the settings.
-fn pair(
-    rows: [Row; MAX_TRACKS],
-    n: usize,
-    seen: [Detection; MAX_OBSERVATIONS],
-    m: usize,
-    time: i64,
-    config: Cartesian3DTrackerConfig,
-) -> Result<Paired, Refusal>
-    ensures { RowsMatch (pair_config config) (take n rows) (take m seen) (rows_taken (pair_config config) config.recent_track_window_ns time (take n rows) (take m seen)) result }
-{
-    let window = config.recent_track_window_ns;
-    let rule = PairConfig {
-        gate_squared_mahalanobis: config.gate_squared_mahalanobis,
-        class_prior_penalty: config.class_prior_penalty,
-    };
-    matching::pair_tracks(rows, n, seen, m, time, rule, window)
 }
 
 // A batch of one sensor at one time, in the record itself: the tracks are moved and noted, paired, updated, and the births are added behind them.
@@ -83,7 +57,7 @@ pub fn process_batch(mut t: PkTracker, batch: ObservationBatch3D) -> Result<Ran,
         rows[n] = pairing::row_of(x);
         n += 1;
     }
-    let paired = pair(rows, n, observations, count, time, config)?;
+    let paired = stages::pair_rows(rows, n, observations, count, time, config)?;
     let mates = paired.mates;
     let pairs = paired.pairs;
     let unmatched = paired.unmatched;

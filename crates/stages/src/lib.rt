@@ -11,11 +11,14 @@ ghost use Rattle.tables.specs.Sequences.{room_for};
 ghost use Rattle.batches.specs.Check.{detections_reply};
 ghost use Rattle.calls.specs.Pairing.{pair_config};
 ghost use Rattle.calls.specs.Process.{finished};
-ghost use Rattle.matching.specs.Stage.{Matches};
+ghost use Rattle.matching.specs.Stage.{rows_taken, Matches, RowsMatch};
 ghost use Rattle.stages.specs.Stages.{laid_over, prepared_state, seen_in, takers_in, MatchAnswers, matched_by, finished_on};
 
+use detections::Detection;
 use detections::pairs::PairConfig;
 use matching::Paired;
+use pairing::Row;
+use settings::Cartesian3DTrackerConfig;
 use types::batch::{BatchReport3D, ObservationAssociation, ObservationBatch3D, ObservationOutcome};
 use types::refusal::Refusal;
 use types::tracker::Cartesian3DTracker;
@@ -74,27 +77,37 @@ pub fn prepare(t: Cartesian3DTracker, time: i64) -> Result<Cartesian3DTracker, R
     Ok(tables::tracks::clear_marks(moved))
 }
 
-// Stage 5 and what comes before it: the pairing of the tracks with the batch's detections.
-fn pair(u: Cartesian3DTracker, batch: ObservationBatch3D) -> Result<Paired, Refusal>
-    ensures { Matches (pair_config u.config) (tracks_of u) (seen_in batch) (takers_in u batch) result }
+// The pairing of the first n rows with the first m detections, under the settings.
+pub fn pair_rows(
+    rows: [Row; MAX_TRACKS],
+    n: usize,
+    seen: [Detection; MAX_OBSERVATIONS],
+    m: usize,
+    time: i64,
+    config: Cartesian3DTrackerConfig,
+) -> Result<Paired, Refusal>
+    ensures { RowsMatch (pair_config config) (take n rows) (take m seen) (rows_taken (pair_config config) config.recent_track_window_ns time (take n rows) (take m seen)) result }
 {
-    let config = u.config;
-    let tracks = u.tracks;
-    let observations = batch.observations;
     let window = config.recent_track_window_ns;
     let rule = PairConfig {
         gate_squared_mahalanobis: config.gate_squared_mahalanobis,
         class_prior_penalty: config.class_prior_penalty,
     };
-    let rows = pairing::rows_of(tracks, u.track_count);
-    matching::pair_tracks(
+    matching::pair_tracks(rows, n, seen, m, time, rule, window)
+}
+
+// Stage 5 and what comes before it: the pairing of the tracks with the batch's detections.
+fn pair(u: Cartesian3DTracker, batch: ObservationBatch3D) -> Result<Paired, Refusal>
+    ensures { Matches (pair_config u.config) (tracks_of u) (seen_in batch) (takers_in u batch) result }
+{
+    let rows = pairing::rows_of(u.tracks, u.track_count);
+    pair_rows(
         rows,
         u.track_count,
-        observations,
+        batch.observations,
         batch.count,
         batch.timestamp,
-        rule,
-        window,
+        u.config,
     )
 }
 

@@ -21,4 +21,4 @@ returns c =
     let f : SFits w64 c.args.batch.timestamp = search rules in
     let sized : length (map row_of u.tracks) ≡ length (replicate 64 blank_row) = length-map u.tracks row_of ∙ track_places ∙ sym (length-replicate {A = Row} 64 blank_row) in
     let rows = ap (take u.track_count) c.rows_of-rows.ensures ∙ lay_read u.track_count (map row_of u.tracks) (replicate 64 blank_row) sized ∙ map_take row_of u.track_count u.tracks in
-    rows_matched _ _ _ (take u.track_count u.tracks) _ _ _ rows (rw (to_z-of_z f) at c.pair_tracks.ensures)
+    rows_matched _ _ _ (take u.track_count u.tracks) _ _ _ rows (rw (to_z-of_z f) at c.pair_rows.ensures)
