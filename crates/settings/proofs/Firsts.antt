@@ -1,9 +1,12 @@
 -- The first bad field of a list, a field or a part at a time. Assumes nothing.
-use mathlib.Core.Path.{◌≡◌, refl, sym, ◌∙◌}
+use Rattle.std.specs.Prelude.{Result, Ok, Err, IsErrAnd}
+use mathlib.Core.Path.{◌≡◌, refl, sym, ap, ◌∙◌}
 use mathlib.Core.Bool.{Bool, true, false, cond}
 use mathlib.Core.List.{List, [], ◌∷◌, ◌++◌}
 use Prim.Native.Nat.{ℕ}
-use Rattle.settings.specs.Fields.{Field, field, SettingsReply, accepted, refused, first_bad}
+use Rattle.settings.specs.declared.bad_field.BadField.{BadField}
+use Rattle.settings.specs.Fields.{Field, field, SettingsReply, accepted, refused, number_of_field, first_bad}
+use Rattle.settings.specs.Settings.{reply_of}
 
 -- what two parts answer, one after the other
 abbrev then : SettingsReply → SettingsReply → SettingsReply
@@ -36,3 +39,8 @@ module _ (n : ℕ) {b b' : Bool} (is : b ≡ b') where
 
   pub bad : (l : List Field) {m k : ℕ} → refused m k ≡ first_bad (field n b ∷ []) → refused m k ≡ first_bad (field n b' ∷ l)
   bad l e = found (field n b' ∷ []) l (alone e)
+
+-- what `?` gives back for a field that is bad
+pub answered : {reply : SettingsReply} (b : BadField) (r : Result (Unit {0}) BadField) → IsErrAnd r (λ y. y ≡ b) → refused 1 (number_of_field b) ≡ reply → reply_of r ≡ reply
+answered b (Ok u) e q = absurd e
+answered b (Err y) e q = ap (λ z. refused 1 (number_of_field z)) e ∙ q

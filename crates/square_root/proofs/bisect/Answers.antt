@@ -5,38 +5,14 @@ use Rattle.square_root.proofs.bisect.Goals as goal
 pub loop-end-init : goal.loop-end-init
 loop-end-init c = record { below = omega arith; above = omega arith; order = omega arith; range = omega arith }
 
-pub overflow_sub-end : goal.overflow_sub-end
-overflow_sub-end c = omega arith
-
-pub overflow_sub-p : goal.overflow_sub-p
-overflow_sub-p c = omega arith
-
-pub overflow_add-p : goal.overflow_add-p
-overflow_add-p c = omega arith
-
-pub square-s-requires : goal.square-s-requires
-square-s-requires c = omega arith
-
 pub overflow_add-s : goal.overflow_add-s
 overflow_add-s c = omega (arith, c.square-s.ensures.small)
-
-pub overflow_sub-s : goal.overflow_sub-s
-overflow_sub-s c = omega arith
 
 pub overflow_add-s-in-loop-end : goal.overflow_add-s-in-loop-end
 overflow_add-s-in-loop-end c = omega (arith, c.square-s.ensures.small, c.square-s.ensures.fits)
 
-pub overflow_add-a : goal.overflow_add-a
-overflow_add-a c = omega arith
-
-pub loop-end-smaller-then-s-p : goal.loop-end-smaller-then-s-p
-loop-end-smaller-then-s-p c = omega arith
-
 pub loop-end-preserved-then-s-p : goal.loop-end-preserved-then-s-p
 loop-end-preserved-then-s-p c = record { below = let at = c.before.before.before in test_true at.args.a _ _ _ at.square-s.ensures (omega arith) c.if-s-p.true; above = c.loop-end.invariant.above; order = omega arith; range = omega arith }
-
-pub loop-end-smaller : goal.loop-end-smaller
-loop-end-smaller c = omega arith
 
 pub loop-end-preserved : goal.loop-end-preserved
 loop-end-preserved c = record { below = c.loop-end.invariant.below; above = let at = c.before.before.before in test_false at.args.a _ _ _ at.square-s.ensures (omega arith) (omega (arith, c.if-s-p.false)); order = omega arith; range = omega arith }

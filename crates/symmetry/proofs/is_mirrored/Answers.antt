@@ -1,3 +1,4 @@
+-- Kept: the search opens the definition only where it is told to.
 use Rattle.std.proofs.Common.{rules}
 use Rattle.symmetry.specs.Symmetry.{mirrored}
 use Rattle.symmetry.proofs.is_mirrored.Goals as goal

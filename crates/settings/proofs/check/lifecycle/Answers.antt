@@ -1,4 +1,3 @@
-use Rattle.std.proofs.lemmas.Result.{err_from_is_err_and}
 use borrow.Author.Rules.{rules}
 use mir.Syntax.{w64}
 use mir.Val.{SFits, to_z, of_z}
@@ -6,15 +5,14 @@ use lib.Signed.{lt_z}
 use mathlib.Core.Path.{◌≡◌}
 use mir.Facts.{to_z-of_z}
 use Rattle.settings.specs.Settings.{fields_of}
-use Rattle.settings.proofs.Firsts.{alone, good, bad}
+use Rattle.settings.proofs.Firsts.{answered, alone, good, bad}
 use Rattle.settings.proofs.check.lifecycle.Goals as goal
 
 pub returns-in_err-refuse_if : goal.returns-in_err-refuse_if
 unfolding fields_of
 returns-in_err-refuse_if c =
     let t : SFits w64 c.args.c.lifecycle.tentative_timeout_ns = search rules in
-    let p = err_from_is_err_and c.from_residual.result c.from_residual.ensures.1 in
-    rw (p.1, p.2)
+    answered _ _ c.from_residual.ensures.1
     (bad 1 (rw (to_z-of_z t) at c.not_positive_time.ensures) _ c.in_err-refuse_if.ensures)
 
 pub returns-in_err-refuse_if-2 : goal.returns-in_err-refuse_if-2
@@ -22,8 +20,7 @@ unfolding fields_of
 returns-in_err-refuse_if-2 c =
     let t : SFits w64 c.args.c.lifecycle.tentative_timeout_ns = search rules in
     let f : SFits w64 c.args.c.lifecycle.confirmed_to_lost_ns = search rules in
-    let p = err_from_is_err_and c.from_residual-in_err-refuse_if-2.result c.from_residual-in_err-refuse_if-2.ensures.1 in
-    rw (p.1, p.2)
+    answered _ _ c.from_residual-in_err-refuse_if-2.ensures.1
     (good 1 (rw (to_z-of_z t) at c.not_positive_time.ensures) _ c.in_ok-refuse_if.ensures
     (bad 2 (rw (to_z-of_z f) at c.not_positive_time-2.ensures) _ c.in_err-refuse_if-2.ensures))
 

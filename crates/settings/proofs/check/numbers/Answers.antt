@@ -1,29 +1,25 @@
-use Rattle.std.proofs.lemmas.Result.{err_from_is_err_and}
 use mathlib.Core.Path.{refl}
 use Rattle.settings.specs.Settings.{fields_of}
-use Rattle.settings.proofs.Firsts.{alone, good, bad}
+use Rattle.settings.proofs.Firsts.{answered, alone, good, bad}
 use Rattle.settings.proofs.check.numbers.Goals as goal
 
 pub returns-in_err-refuse_if : goal.returns-in_err-refuse_if
 unfolding fields_of
 returns-in_err-refuse_if c =
-    let p = err_from_is_err_and c.from_residual.result c.from_residual.ensures.1 in
-    rw (p.1, p.2)
+    answered _ _ c.from_residual.ensures.1
     (bad 4 refl _ c.in_err-refuse_if.ensures)
 
 pub returns-in_err-refuse_if-2 : goal.returns-in_err-refuse_if-2
 unfolding fields_of
 returns-in_err-refuse_if-2 c =
-    let p = err_from_is_err_and c.from_residual-in_err-refuse_if-2.result c.from_residual-in_err-refuse_if-2.ensures.1 in
-    rw (p.1, p.2)
+    answered _ _ c.from_residual-in_err-refuse_if-2.ensures.1
     (good 4 refl _ c.in_ok-refuse_if.ensures
     (bad 5 c.threshold_is_bad.ensures _ c.in_err-refuse_if-2.ensures))
 
 pub returns-in_err-refuse_if-3 : goal.returns-in_err-refuse_if-3
 unfolding fields_of
 returns-in_err-refuse_if-3 c =
-    let p = err_from_is_err_and c.from_residual-in_err-refuse_if-3.result c.from_residual-in_err-refuse_if-3.ensures.1 in
-    rw (p.1, p.2)
+    answered _ _ c.from_residual-in_err-refuse_if-3.ensures.1
     (good 4 refl _ c.in_ok-refuse_if.ensures
     (good 5 c.threshold_is_bad.ensures _ c.in_ok-refuse_if-2.ensures
     (bad 6 c.negative.ensures _ c.in_err-refuse_if-3.ensures)))
@@ -31,8 +27,7 @@ returns-in_err-refuse_if-3 c =
 pub returns-in_err-refuse_if-4 : goal.returns-in_err-refuse_if-4
 unfolding fields_of
 returns-in_err-refuse_if-4 c =
-    let p = err_from_is_err_and c.from_residual-in_err-refuse_if-4.result c.from_residual-in_err-refuse_if-4.ensures.1 in
-    rw (p.1, p.2)
+    answered _ _ c.from_residual-in_err-refuse_if-4.ensures.1
     (good 4 refl _ c.in_ok-refuse_if.ensures
     (good 5 c.threshold_is_bad.ensures _ c.in_ok-refuse_if-2.ensures
     (good 6 c.negative.ensures _ c.in_ok-refuse_if-3.ensures
@@ -41,8 +36,7 @@ returns-in_err-refuse_if-4 c =
 pub returns-in_err-refuse_if-5 : goal.returns-in_err-refuse_if-5
 unfolding fields_of
 returns-in_err-refuse_if-5 c =
-    let p = err_from_is_err_and c.from_residual-in_err-refuse_if-5.result c.from_residual-in_err-refuse_if-5.ensures.1 in
-    rw (p.1, p.2)
+    answered _ _ c.from_residual-in_err-refuse_if-5.ensures.1
     (good 4 refl _ c.in_ok-refuse_if.ensures
     (good 5 c.threshold_is_bad.ensures _ c.in_ok-refuse_if-2.ensures
     (good 6 c.negative.ensures _ c.in_ok-refuse_if-3.ensures
