@@ -89,6 +89,7 @@ fn settled(mut s: Cartesian3DTracker, kept: &Candidates) -> Cartesian3DTracker
 }
 
 // The births among m detections, on a tracker whose candidates are c. They are laid back at the end, so that one that was added and left again leaves nothing behind the count.
+// Arrays and their count stand side by side, here and below, as the batch and its pairing have them, where the count may be anything.
 pub fn walk(
     t: Cartesian3DTracker,
     c: Candidates,

@@ -85,6 +85,7 @@ pub fn move_tracks(s: Cartesian3DTracker, time: i64) -> Result<Cartesian3DTracke
     let n = tables::taken(s.track_count, MAX_TRACKS);
     let mut tracks = s.tracks;
     let mut kept: usize = 0;
+    // By index: a track that stays is written to the array that is walked, which an iterator would hold.
     for i in 0..n {
         if let Some(track) = carry(tracks[i], time, life, density)? {
             tracks[kept] = track;

@@ -133,6 +133,7 @@ pub fn update_tracks(
 {
     let n = tables::taken(s.track_count, MAX_TRACKS);
     let mut tracks = s.tracks;
+    // By index: over `tracks[..n].iter_mut().zip(&mates)` the invariant has to say what the iterator has still to write, and is no plainer.
     for i in 0..n {
         let j = mates[i];
         if j < MAX_OBSERVATIONS {
