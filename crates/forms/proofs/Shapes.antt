@@ -11,6 +11,8 @@ use lib.Dec.{eqb}
 use lib.ListN.{length, drop, get_or, length-drop, drop_of_length-le}
 use lib.Seq.{drop-cons, drop-drop}
 use Rattle.number.specs.Reply.{refused, given}
+use Rattle.std.specs.Prelude.{take_while}
+use Rattle.std.proofs.lemmas.List.Sums.{take_while-cons}
 use Rattle.forms.specs.Shape.{word_byte, past_word, word_end, behind, forms_of, word, inside, bracketed, form_of, list_of, place_reply}
 
 -- ---- the second list is what is left of the first behind one element or more
@@ -52,17 +54,14 @@ past_short : (l : List ℕ) → length (past_word l) ≤ length l
 past_short l = let t = shorter (past_tail 0 l) in omega arith
 
 -- ---- the place behind a word
-module _ (s : List ℕ) (i : ℕ) where
-  pub end_here : i < length s → word_byte (get_or s i 0) ≡ false → word_end s i ≡ i
-  unfolding past_word
-  end_here h e = rw (drop-cons s i 0, e) (omega arith)
-
-  pub end_more : i < length s → word_byte (get_or s i 0) ≡ true → word_end s (i + 1) ≡ word_end s i
-  unfolding past_word
-  end_more h e =
-      let l = past_short (drop (suc i) s) in
-      let n : length (drop (suc i) s) ≡ length s - suc i = length-drop (suc i) s in
-      rw (add-one, drop-cons s i 0, e) (omega arith)
+pub word_long : (l : List ℕ) → length (take_while word_byte l) ≡ length l - length (past_word l)
+unfolding past_word
+word_long [] = refl
+word_long (b ∷ l) = ap length (take_while-cons word_byte b l) ∙ go (word_byte b) (word_long l)
+  where
+    go : (t : Bool) → length (take_while word_byte l) ≡ length l - length (past_word l) → length (cond t (b ∷ take_while word_byte l) []) ≡ suc (length l) - length (cond t (past_word l) (b ∷ l))
+    go true e = let h = past_short l in omega arith
+    go false e = omega arith
 
 -- what callers use of it
 pub record Passed (s : List ℕ) (from r : ℕ) : Type 0 where

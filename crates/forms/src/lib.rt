@@ -3,7 +3,7 @@
 
 pub mod decimal;
 
-ghost use Rattle.std.specs.Prelude.{◌≡◌, drop};
+ghost use Rattle.std.specs.Prelude.{◌≡◌, drop, length, take_while};
 ghost use Rattle.forms.specs.Shape.{word_byte, word_end, form_of, list_of, place_reply, reply_of_read};
 
 // Whether a word may have the byte.
@@ -13,16 +13,21 @@ fn word_byte(b: u8) -> bool
     !matches!(b, b' ' | b'\n' | b'(' | b')')
 }
 
+// How many bytes of a word stand in front.
+fn word_length(s: &[u8]) -> usize
+    ensures { result ≡ length (take_while word_byte s.now) }
+{
+    s.iter().take_while(|b| word_byte(**b)).count()
+}
+
 // The first place at or behind `from` that has no byte of a word; a place past the end is left as it is.
 pub fn past_word(s: &[u8], from: usize) -> usize
     ensures { result ≡ word_end s.now from }
 {
-    for i in from..s.len() {
-        if !word_byte(s[i]) {
-            return i;
-        }
+    match s.get(from..) {
+        Some(rest) => from + word_length(rest),
+        None => from,
     }
-    from.max(s.len())
 }
 
 // The place behind a form that starts at `at`, at most `depth` brackets deep; none where no form stands there.

@@ -1,5 +1,5 @@
 // What a line of the program `assign` asks: its head, its table, and the end of the line.
-// A place in the line, and the length of the array of costs, are clauses where they are asked: a cursor over the line would say the first in a ghost field, but each reader gives back an end that its caller may drop.
+// A place in the line is a clause where it is asked: a cursor over the line would say it in a ghost field, but each reader gives back an end that its caller may drop.
 #![tactic(auto)]
 
 mod head;

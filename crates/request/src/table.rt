@@ -1,5 +1,6 @@
 // The table: rows of costs in brackets, stored row after row.
-// Seen by this crate alone: `read_request` lends an array that it has just made.
+// Seen by this crate alone: `read_request` lends an array that it has just made. It has the room of the largest table, and `k` beside it is where a row's costs begin,
+// not its length.
 ghost use Rattle.std.specs.Prelude.{◌≡◌, true, ◌≤◌, length, drop, set};
 ghost use Rattle.request.specs.Listed.{listed};
 ghost use Rattle.request.specs.Request.{entry_of, row_of, table_of, row_told, RowRead, table_told, TableRead};
@@ -14,18 +15,17 @@ pub struct Rows {
 }
 
 // Stores a cost, where the array has its place.
-fn store(costs: &mut [f64; 4096], k: usize, v: f64)
-    requires { length costs.old ≡ 4096 }
+fn store(costs: &mut [f64], k: usize, v: f64)
     ensures { costs.new ≡ set costs.old k v }
 {
-    if k < 4096 {
+    if k < costs.len() {
         costs[k] = v;
     }
 }
 
 // One entry or more, and the closing bracket: how many. Their costs are stored from `k` on.
 fn entries(s: &[u8], from: usize, costs: &mut [f64; 4096], k: usize) -> Option<Found<usize>>
-    requires { (from ≤ length s.now) × (k ≤ from) × (length costs.old ≡ 4096) }
+    requires { (from ≤ length s.now) × (k ≤ from) }
     ensures { RowRead (row_told k costs.old s.now (listed entry_of (drop from s.now))) from result costs.new }
 {
     let mut i = from;
@@ -46,7 +46,7 @@ fn entries(s: &[u8], from: usize, costs: &mut [f64; 4096], k: usize) -> Option<F
 
 // A row: entries in brackets, or none; how many.
 fn read_row(s: &[u8], at: usize, costs: &mut [f64; 4096], k: usize) -> Option<Found<usize>>
-    requires { (k ≤ at) × (length costs.old ≡ 4096) }
+    requires { k ≤ at }
     ensures { RowRead (row_told k costs.old s.now (row_of (drop at s.now))) at result costs.new }
 {
     if *s.get(at)? != b'(' {
@@ -64,7 +64,7 @@ fn read_row(s: &[u8], at: usize, costs: &mut [f64; 4096], k: usize) -> Option<Fo
 // One row or more, and the closing bracket. A loop of its own, and not one with `entries` over a closure: a row counts its entries, and a table its rows, the
 // places of their costs, and whether they are even.
 fn read_rows(s: &[u8], from: usize, columns: usize, costs: &mut [f64; 4096]) -> Option<Found<Rows>>
-    requires { (from ≤ length s.now) × (length costs.old ≡ 4096) }
+    requires { from ≤ length s.now }
     ensures { TableRead (table_told columns costs.old s.now (listed row_of (drop from s.now))) result costs.new }
 {
     let mut i = from;
@@ -96,7 +96,6 @@ pub fn read_table(
     columns: usize,
     costs: &mut [f64; 4096],
 ) -> Option<Found<Rows>>
-    requires { length costs.old ≡ 4096 }
     ensures { TableRead (table_told columns costs.old s.now (table_of (drop at s.now))) result costs.new }
 {
     if *s.get(at)? != b'(' {

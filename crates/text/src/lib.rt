@@ -43,9 +43,8 @@ fn put_unmatched(text: &mut Text, rows: &[usize], columns: &[usize])
     text.put(b"))\n");
 }
 
-// The first of an array, as many as there are.
+// The first of an array of an `Assignment`, as many as there are. The array's type says that there are at most 64.
 fn first(list: &[usize; 64], count: usize) -> &[usize]
-    requires { length list.now ≡ 64 }
     ensures { (result.now ≡ take count list.now) × (length result.now ≤ 64) }
 {
     &list[..count.min(64)]

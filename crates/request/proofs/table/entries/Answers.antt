@@ -8,7 +8,7 @@ use Rattle.request.proofs.Tables.{entry_leaves, row_refused, row_read}
 use Rattle.request.proofs.table.entries.Goals as goal
 
 pub loop-cost-init : goal.loop-cost-init
-loop-cost-init c = (search rules, search rules, c.requires.2, refl)
+loop-cost-init c = (search rules, search rules, c.told-costs, refl)
 
 pub returns-in_err-cost : goal.returns-in_err-cost
 returns-in_err-cost c =

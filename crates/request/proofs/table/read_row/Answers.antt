@@ -9,26 +9,26 @@ pub returns-in_err-get : goal.returns-in_err-get
 unfolding row_of
 returns-in_err-get c =
     let a : Stored = record { count = 0; costs = c.args.costs.now } in
-    rw c.from_residual.ensures (row_refused _ c.args.at _ (bracket_ends (store_one c.args.k) entry_of entry_leaves c.args.s.now c.args.at a (search rules)) c.requires.1)
+    rw c.from_residual.ensures (row_refused _ c.args.at _ (bracket_ends (store_one c.args.k) entry_of entry_leaves c.args.s.now c.args.at a (search rules)) c.told-costs)
 
 pub returns-then-branch-ne40 : goal.returns-then-branch-ne40
 unfolding row_of
 returns-then-branch-ne40 c =
     let a : Stored = record { count = 0; costs = c.args.costs.now } in
-    row_refused _ c.args.at _ (bracket_other (store_one c.args.k) entry_of entry_leaves c.args.s.now c.args.at a (search rules) (search rules)) c.requires.1
+    row_refused _ c.args.at _ (bracket_other (store_one c.args.k) entry_of entry_leaves c.args.s.now c.args.at a (search rules) (search rules)) c.told-costs
 
 pub returns-in_err-get-2 : goal.returns-in_err-get-2
 unfolding row_of
 returns-in_err-get-2 c =
     let a : Stored = record { count = 0; costs = c.args.costs.now } in
     rw c.from_residual-in_err-get-2.ensures
-    (row_refused _ c.args.at _ (bracket_open (store_one c.args.k) entry_of entry_leaves c.args.s.now c.args.at a (search rules) (search rules) (search rules)) c.requires.1)
+    (row_refused _ c.args.at _ (bracket_open (store_one c.args.k) entry_of entry_leaves c.args.s.now c.args.at a (search rules) (search rules) (search rules)) c.told-costs)
 
 pub returns-then-branch-eq41 : goal.returns-then-branch-eq41
 unfolding row_of
 returns-then-branch-eq41 c =
     let a : Stored = record { count = 0; costs = c.args.costs.now } in
-    row_read _ c.args.at _ a (c.args.at + 2) (bracket_empty (store_one c.args.k) entry_of entry_leaves c.args.s.now c.args.at a (search rules) (search rules) (search rules) (search rules)) refl c.requires.1 (omega arith)
+    row_read _ c.args.at _ a (c.args.at + 2) (bracket_empty (store_one c.args.k) entry_of entry_leaves c.args.s.now c.args.at a (search rules) (search rules) (search rules) (search rules)) refl c.told-costs (omega arith)
 
 pub returns : goal.returns
 unfolding row_of

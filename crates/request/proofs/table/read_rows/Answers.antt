@@ -8,10 +8,7 @@ use Rattle.request.proofs.Tables.{row_leaves, no_row, row_got, table_refused, ta
 use Rattle.request.proofs.table.read_rows.Goals as goal
 
 pub loop-row-init : goal.loop-row-init
-loop-row-init c = (search rules, search rules, search rules, c.requires.1, refl)
-
-pub read_row-requires : goal.read_row-requires
-read_row-requires c = (search rules, c.loop-row.invariant.3)
+loop-row-init c = (search rules, search rules, search rules, c.told-costs, refl)
 
 pub returns-in_err-row : goal.returns-in_err-row
 returns-in_err-row c =

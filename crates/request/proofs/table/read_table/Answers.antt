@@ -9,26 +9,26 @@ pub returns-in_err-get : goal.returns-in_err-get
 unfolding table_of
 returns-in_err-get c =
     let a : Filled = record { rows = 0; same = true; next = 0; costs = c.args.costs.now } in
-    rw c.from_residual.ensures (table_refused _ _ (bracket_ends (fill_row c.args.columns) row_of row_leaves c.args.s.now c.args.at a (search rules)) c.requires)
+    rw c.from_residual.ensures (table_refused _ _ (bracket_ends (fill_row c.args.columns) row_of row_leaves c.args.s.now c.args.at a (search rules)) c.told-costs)
 
 pub returns-then-branch-ne40 : goal.returns-then-branch-ne40
 unfolding table_of
 returns-then-branch-ne40 c =
     let a : Filled = record { rows = 0; same = true; next = 0; costs = c.args.costs.now } in
-    table_refused _ _ (bracket_other (fill_row c.args.columns) row_of row_leaves c.args.s.now c.args.at a (search rules) (search rules)) c.requires
+    table_refused _ _ (bracket_other (fill_row c.args.columns) row_of row_leaves c.args.s.now c.args.at a (search rules) (search rules)) c.told-costs
 
 pub returns-in_err-get-2 : goal.returns-in_err-get-2
 unfolding table_of
 returns-in_err-get-2 c =
     let a : Filled = record { rows = 0; same = true; next = 0; costs = c.args.costs.now } in
     rw c.from_residual-in_err-get-2.ensures
-    (table_refused _ _ (bracket_open (fill_row c.args.columns) row_of row_leaves c.args.s.now c.args.at a (search rules) (search rules) (search rules)) c.requires)
+    (table_refused _ _ (bracket_open (fill_row c.args.columns) row_of row_leaves c.args.s.now c.args.at a (search rules) (search rules) (search rules)) c.told-costs)
 
 pub returns-then-branch-eq41 : goal.returns-then-branch-eq41
 unfolding table_of
 returns-then-branch-eq41 c =
     let a : Filled = record { rows = 0; same = true; next = 0; costs = c.args.costs.now } in
-    table_read _ _ a (c.args.at + 2) (bracket_empty (fill_row c.args.columns) row_of row_leaves c.args.s.now c.args.at a (search rules) (search rules) (search rules) (search rules)) refl c.requires
+    table_read _ _ a (c.args.at + 2) (bracket_empty (fill_row c.args.columns) row_of row_leaves c.args.s.now c.args.at a (search rules) (search rules) (search rules) (search rules)) refl c.told-costs
 
 pub returns : goal.returns
 unfolding table_of
