@@ -13,6 +13,7 @@ use Rattle.lists.specs.Each.{each}
 use Rattle.lists.specs.Lay.{lay}
 use Rattle.lists.proofs.Tables.{rows}
 use Rattle.lifecycle.specs.declared.LifecycleConfig.{LifecycleConfig}
+use Rattle.settings.specs.declared.Cartesian3DTrackerConfig.{Cartesian3DTrackerConfig}
 use Rattle.types.specs.declared.track.Track3D.{Track3D}
 use Rattle.types.specs.States.{state_of, tracks_of}
 use Rattle.calls.specs.Predict.{continued, moved, predicted_tracks}
@@ -63,6 +64,9 @@ pub record Read (t : PkTracker) (time : ℤ) (life : LifecycleConfig) (q : Float
   pub density : q ≡ (settings_of t.settings).accel_spectral_density
   pub when : now ≡ time
   pub size : length t.tracks ≡ 64
+
+pub read_of : {t : PkTracker} {time now : ℤ} {config : Cartesian3DTrackerConfig} → config ≡ settings_of t.settings → now ≡ time → length t.tracks ≡ 64 → Read t time config.lifecycle config.accel_spectral_density now
+read_of e when size = record { rules = ap (λ (c : Cartesian3DTrackerConfig). c.lifecycle) e; density = ap (λ (c : Cartesian3DTrackerConfig). c.accel_spectral_density) e; when = when; size = size }
 
 -- the tracks that are left, and where they stand
 pub record Carried (t : PkTracker) (time : ℤ) (put : Track3D → PkTrack) (m : List PkTrack) (j : ℕ) : Type 0 where

@@ -144,9 +144,9 @@ module _ {t : PkTracker} {b : ObservationBatch3D} {config : Cartesian3DTrackerCo
   pub updates_refused : {r : ℕ} → each_at (steps_pk u took) 0 (take n y.tracks) ≡ refused r → updated ≡ refused r
   updates_refused {r} e = refused_before updated (map track_to) r (sym all_through ∙ e)
 
-  pub corrected_all : {x : PkTracker} {k near : ℕ} {spots : List Spot} → k ≡ n → x ≡ with_pk_tracks y x.tracks → Stepped (steps_pk u took) y.tracks x.tracks k → Spotted (map track_of (take k x.tracks)) spots near
+  pub corrected_all : {x : PkTracker} {k near : ℕ} {spots : List Spot} → k ≡ n → x ≡ with_pk_tracks y x.tracks → length x.tracks ≡ 64 → Stepped (steps_pk u took) y.tracks x.tracks k → Spotted (map track_of (take k x.tracks)) spots near
       → Corrected t b config now n p x (record { items = spots; count = near })
-  corrected_all {x} {k} {near} {spots} h fields q spotted =
+  corrected_all {x} {k} {near} {spots} h fields size q spotted =
       let g : each_at (steps_pk u took) 0 (take n y.tracks) ≡ given q.done = ap (λ (i : ℕ). each_at (steps_pk u took) 0 (take i y.tracks)) (sym h) ∙ q.gives in
       let w = bound updated (λ us. given (map track_to us)) q.done (sym all_through ∙ g) in
       let d : map track_to w.0 ≡ q.done = given_same _ _ w.2 in
@@ -156,6 +156,7 @@ module _ {t : PkTracker} {b : ObservationBatch3D} {config : Cartesian3DTrackerCo
         from = y;
         mated = m;
         fields = fields ∙ ap (λ (z : PkTracker). with_pk_tracks z x.tracks) m.moved.fields;
+        size = size;
         tracks = w.0;
         gives = w.1;
         slots = q.slots ∙ ap (λ (r : List PkTrack). lay r y.tracks) (sym d);

@@ -71,7 +71,7 @@ use Rattle.records.specs.Trackers.{tracker_of, pk_state, pk_over}
 use Rattle.owner.specs.declared.batch.Ran.{Ran}
 use Rattle.owner.specs.Processes.{after_batch}
 use Rattle.owner.proofs.Predicting.{with_pk_tracks}
-use Rattle.owner.proofs.Carrying.{keeps_pk, moves_pk, all_refused, all_carried}
+use Rattle.owner.proofs.Carrying.{read_of, keeps_pk, moves_pk, all_refused, all_carried}
 use Rattle.owner.proofs.Reached.{unmarked, meant, meant_is, start_at, Checked, Moved, Mated, Corrected, Aged}
 use Rattle.owner.proofs.Noting.{Noted, noted_front}
 use Rattle.owner.proofs.Correcting.{steps_pk, updates_refused}
@@ -84,6 +84,24 @@ numbers_listed {l} {ids} {count} h = h.slots ∙ ap (λ (q : List ℕ). lay q (r
 
 few_numbers : (ts : List Track3D) (ds : List Detection) (takers : List (Option ℕ)) {ids : List ℕ} {count : ℕ} → length ts ≤ 64 → Listed (unmatched_in ts ds takers) ids count → count ≤ 64
 few_numbers ts ds takers h l = omega (arith, l.many, unmatched_few (taken_by takers ds) 0 ts, h)
+
+-- ---- the record and the report, as they are at the end
+
+abbrev record_of : List PkTrack → ℕ → ℕ → Option ℤ → Sequences → Candidates → PkTracker → PkTracker
+record_of tracks n id last table left x =
+    record {
+      tracks = tracks;
+      track_count = n;
+      next_track_id = id;
+      last_time = unwrap_or last (pos 0);
+      sequences = table.entries;
+      sequence_count = table.count;
+      candidates = left.items;
+      candidate_count = left.count;
+      settings = x.settings;
+      has_last_time = flag last;
+      reserved = x.reserved;
+    }
 
 module _ (t : PkTracker) (b : ObservationBatch3D) where
   abbrev c : Cartesian3DTrackerConfig
@@ -122,29 +140,35 @@ module _ (t : PkTracker) (b : ObservationBatch3D) where
     check_refused e = refuses (rw (sym (e ∙ check_is)))
 
     pub checked : length t.tracks ≡ 64 → length b.observations ≡ 64 → SFits w64 b.timestamp → given tt ≡ asked → Checked t b config (to_z w64 (of_z w64 b.timestamp))
-    checked st sd z e = record { is = is; read = record { rules = ap (λ (x : Cartesian3DTrackerConfig). x.lifecycle) is; density = ap (λ (x : Cartesian3DTrackerConfig). x.accel_spectral_density) is; when = to_z-of_z z; size = st }; seen = sd; ok = sym (e ∙ check_is) }
+    checked st sd z e = record { is = is; read = read_of is (to_z-of_z z) st; seen = sd; ok = sym (e ∙ check_is) }
 
   -- ---- the tracks at the batch's time
 
   abbrev predicted : Reply (List Track3D)
   predicted = predicted_tracks c b.timestamp s.tracks
 
-  -- stages 4 to 9
+  -- stages 4 to 9, and 7 to 9 of them
+  abbrev finishing : Reply Matched → Reply Done
+  finishing r = and_then r (finished c s b)
+
   abbrev rest : List Track3D → Reply Done
-  rest ts = and_then (matched_with c b.sensor_id b.timestamp ds ts) (finished c s b)
+  rest ts = finishing (matched_with c b.sensor_id b.timestamp ds ts)
+
+  abbrev pairing : Reply (List Track3D) → Reply Done
+  pairing r = and_then r (λ ms. rest (map (with_mark false) ms))
 
   module _ {config : Cartesian3DTrackerConfig} {now : ℤ} (k : Checked t b config now) where
-    by_moved : reply ≡ and_then predicted (λ ms. rest (map (with_mark false) ms))
+    by_moved : reply ≡ pairing predicted
     unfolding process_reply matched batch_of
     by_moved = rw k.ok (go predicted)
       where
-        go : (r : Reply (List Track3D)) → and_then (and_then r (λ ms. matched_with c b.sensor_id b.timestamp ds (map (with_mark false) ms))) (finished c s b) ≡ and_then r (λ ms. rest (map (with_mark false) ms))
+        go : (r : Reply (List Track3D)) → and_then (and_then r (λ ms. matched_with c b.sensor_id b.timestamp ds (map (with_mark false) ms))) (finished c s b) ≡ pairing r
         go (refused n) = refl
         go (given ms) = refl
 
     pub move_refused : {all r : ℕ} → all ≡ min t.track_count 64
         → each (moves_pk unmarked config.accel_spectral_density now) (sift (keeps_pk config.lifecycle now) (take all t.tracks)) ≡ refused r → refused r ≡ answer
-    move_refused taken e = refuses (by_moved ∙ ap (λ (r : Reply (List Track3D)). and_then r (λ ms. rest (map (with_mark false) ms))) (all_refused k.read unmarked taken e))
+    move_refused taken e = refuses (by_moved ∙ ap pairing (all_refused k.read unmarked taken e))
 
     pub moved_all : {all : ℕ} {y : PkTracker} {i n : ℕ} → all ≡ min t.track_count 64 → i ≡ all → y ≡ with_pk_tracks t y.tracks → length y.tracks ≡ 64 → n ≤ 64
         → Passed (keeps_pk config.lifecycle now) (moves_pk unmarked config.accel_spectral_density now) t.tracks y.tracks i n → Moved t b config now y n
@@ -162,7 +186,7 @@ module _ (t : PkTracker) (b : ObservationBatch3D) where
 
   module _ {config : Cartesian3DTrackerConfig} {now : ℤ} {y : PkTracker} {n : ℕ} (m : Moved t b config now y n) where
     by_rest : reply ≡ rest (meant y n)
-    by_rest = by_moved m.checked ∙ ap (λ (r : Reply (List Track3D)). and_then r (λ ms. rest (map (with_mark false) ms))) m.gives ∙ ap rest (sym (meant_is y n m.stored))
+    by_rest = by_moved m.checked ∙ ap pairing m.gives ∙ ap rest (sym (meant_is y n m.stored))
 
     size : length (map track_of y.tracks) ≡ 64
     size = length-map y.tracks track_of ∙ m.places
@@ -178,7 +202,7 @@ module _ (t : PkTracker) (b : ObservationBatch3D) where
 
       pub pair_refused : (why : Refusal) → Paired_so (Err why) → refused (number_of why) ≡ answer
       pair_refused why a =
-          refuses (by_rest ∙ ap (λ (r : Reply Matched). and_then r (finished c s b)) (stage_refused c b.sensor_id b.timestamp (map track_of y.tracks) n b.observations b.count size m.checked.seen why (told_by (Err why) a)))
+          refuses (by_rest ∙ ap finishing (stage_refused c b.sensor_id b.timestamp (map track_of y.tracks) n b.observations b.count size m.checked.seen why (told_by (Err why) a)))
 
       pub paired_by : {p : Paired} → Paired_so (Ok p) → Mated t b config now y n p
       paired_by {p} a = record { moved = m; told = told_by (Ok p) a }
@@ -191,6 +215,9 @@ module _ (t : PkTracker) (b : ObservationBatch3D) where
   abbrev told : Paired → List Track3D → Matched
   told p us = record { tracks = us; columns = columns p; unmatched = take p.unmatched_count p.unmatched }
 
+  abbrev telling : Paired → Reply (List Track3D) → Reply Matched
+  telling p r = and_then r (λ us. given (told p us))
+
   module _ {config : Cartesian3DTrackerConfig} {now : ℤ} {y : PkTracker} {n : ℕ} {p : Paired} (m : Mated t b config now y n p) where
     abbrev took : ℕ → Option Detection
     took = mate_of p.mates b.observations
@@ -201,20 +228,15 @@ module _ (t : PkTracker) (b : ObservationBatch3D) where
     few : length (meant y n) ≤ 64
     few = let q = length-take n (map track_of y.tracks) in omega (arith, size m.moved)
 
-    by_updated : reply ≡ and_then updated (λ us. finished c s b (told p us))
+    by_updated : reply ≡ finishing (telling p updated)
     by_updated =
         by_rest m.moved
-        ∙ ap (λ (r : Reply Matched). and_then r (finished c s b)) (stage_given c b.sensor_id b.timestamp (map track_of y.tracks) n b.observations b.count (size m.moved) m.moved.checked.seen p m.told)
-        ∙ go (updates c b.sensor_id b.timestamp took (meant y n))
-        ∙ ap (λ (r : Reply (List Track3D)). and_then r (λ us. finished c s b (told p us)))
+        ∙ ap finishing (stage_given c b.sensor_id b.timestamp (map track_of y.tracks) n b.observations b.count (size m.moved) m.moved.checked.seen p m.told)
+        ∙ ap (λ (r : Reply (List Track3D)). finishing (telling p r))
         (sym (updates_by_mates c b.sensor_id b.timestamp (meant y n) few b.observations b.count m.moved.checked.seen p m.told (passed c.frame_id s.last s.sequences b m.moved.checked.ok).detections))
-      where
-        go : (r : Reply (List Track3D)) → and_then (and_then r (λ us. given (told p us))) (finished c s b) ≡ and_then r (λ us. finished c s b (told p us))
-        go (refused k) = refl
-        go (given us) = refl
 
     pub update_refused : {u : Update} {r : ℕ} → u ≡ update_of config b.sensor_id now → each_at (steps_pk u took) 0 (take n y.tracks) ≡ refused r → refused r ≡ answer
-    update_refused how e = refuses (by_updated ∙ ap (λ (r : Reply (List Track3D)). and_then r (λ us. finished c s b (told p us))) (updates_refused m how e))
+    update_refused how e = refuses (by_updated ∙ ap (λ (r : Reply (List Track3D)). finishing (telling p r)) (updates_refused m how e))
 
   -- ---- the candidates' ages
 
@@ -230,7 +252,7 @@ module _ (t : PkTracker) (b : ObservationBatch3D) where
   module _ {config : Cartesian3DTrackerConfig} {now : ℤ} {n : ℕ} {p : Paired} {x : PkTracker} {places : Places} (u : Corrected t b config now n p x places) where
     by_ages : reply ≡ joining p u.tracks ages
     unfolding finished
-    by_ages = by_updated u.mated ∙ ap (λ (r : Reply (List Track3D)). and_then r (λ us. finished c s b (told p us))) u.gives
+    by_ages = by_updated u.mated ∙ ap (λ (r : Reply (List Track3D)). finishing (telling p r)) u.gives
 
     -- the record has the candidates that it had
     abbrev held : Candidates
@@ -270,15 +292,18 @@ module _ (t : PkTracker) (b : ObservationBatch3D) where
           candidates = list_of kept;
         }
 
-    by_births : reply ≡ and_then (births_of config b.sensor_id now (places_of places) (columns p) start) (λ w. given (done_with b (told p a.corrected.tracks) w))
+    abbrev ended : Births → Reply Done
+    ended w = given (done_with b (told p a.corrected.tracks) w)
+
+    by_births : reply ≡ and_then (births_of config b.sensor_id now (places_of places) (columns p) start) ended
     by_births =
         let k = a.corrected.mated.moved.checked in
         by_ages a.corrected
         ∙ ap (joining p a.corrected.tracks) a.stay
-        ∙ (λ i. and_then (births_of (sym k.is i) b.sensor_id (sym k.read.when i) (sym a.corrected.spots i) (columns p) (sym start_is i)) (λ w. given (done_with b (told p a.corrected.tracks) w)))
+        ∙ (λ i. and_then (births_of (sym k.is i) b.sensor_id (sym k.read.when i) (sym a.corrected.spots i) (columns p) (sym start_is i)) ended)
 
     pub births_refused : {r : ℕ} → births_of config b.sensor_id now (places_of places) (columns p) start ≡ refused r → refused r ≡ answer
-    births_refused e = refuses (by_births ∙ ap (λ (r : Reply Births). and_then r (λ w. given (done_with b (told p a.corrected.tracks) w))) e)
+    births_refused e = refuses (by_births ∙ ap (λ (r : Reply Births). and_then r ended) e)
 
     -- ---- the end, where the loop over the detections left the record z
 
@@ -306,6 +331,21 @@ module _ (t : PkTracker) (b : ObservationBatch3D) where
       grown : Grows start e.state
       grown = births_grow config b.sensor_id now (places_of places) (columns p) start e bears
 
+      abbrev ran : List PkTrack → ℕ → ℕ → Option ℤ → ℤ → Sequences → Candidates → PkTracker → List ObservationAssociation → ℕ → List ℕ → ℕ → Ran
+      ran tracks n id last time table left x told count numbers many =
+          record {
+            tracker = record_of tracks n id last table left x;
+            report =
+                record {
+                  timestamp = time;
+                  sensor_id = b.sensor_id;
+                  associations = told;
+                  association_count = count;
+                  unmatched_track_ids = numbers;
+                  unmatched_track_count = many;
+                };
+          }
+
       -- each store lies over the one before it
       laid : z.tracks ≡ lay (map track_to e.state.tracks) t.tracks
       laid =
@@ -319,68 +359,30 @@ module _ (t : PkTracker) (b : ObservationBatch3D) where
           ∙ ap (lay (map track_to ts)) u.slots ∙ lay_lay (map track_to ts) (map track_to u.tracks) u.from.tracks (longer u.tracks (omega (arith, us, g)))
           ∙ ap (lay (map track_to ts)) m.moved.slots ∙ lay_lay (map track_to ts) (map track_to ms) t.tracks (longer ms (omega (arith, us, vs, g)))
 
+      -- the sequence is noted, and the candidates that are left are laid over those that it had
       pub batch_done : {table : Sequences} {left : Candidates} → table ≡ Sequences'.over (record { entries = t.sequences; count = z.sequence_count }) (noted_in 32 b.sensor_id b.sequence (take z.sequence_count t.sequences))
           → left ≡ Candidates'.over (record { items = x.candidates; count = x.candidate_count }) (list_of kept')
-          → given (record {
-            tracker =
-                record {
-                  tracks = z.tracks;
-                  track_count = n';
-                  next_track_id = id;
-                  last_time = now;
-                  sequences = table.entries;
-                  sequence_count = table.count;
-                  candidates = left.items;
-                  candidate_count = left.count;
-                  settings = z.settings;
-                  has_last_time = 1;
-                  reserved = z.reserved;
-                };
-            report =
-                record {
-                  timestamp = now;
-                  sensor_id = b.sensor_id;
-                  associations = associations;
-                  association_count = b.count;
-                  unmatched_track_ids = p.unmatched;
-                  unmatched_track_count = p.unmatched_count;
-                };
-          })
-          ≡ answer
+          → given (ran z.tracks n' id (Some now) now table left z associations b.count p.unmatched p.unmatched_count) ≡ answer
       unfolding pk_over done_with state_of sequences_of tracker_of whole_report over_report
       batch_done {table} {left} table_is left_is =
           let whole : z ≡ with_pk_tracks t z.tracks = fields ∙ ap (λ (y : PkTracker). with_pk_tracks y z.tracks) u.fields in
-          let last : Some now ≡ e.state.last = sym grown.last in
           let rest : noted_in 32 b.sensor_id b.sequence (take z.sequence_count t.sequences) ≡ noted b.sensor_id b.sequence e.state.sequences =
           ap (λ (y : PkTracker). noted_in 32 b.sensor_id b.sequence (take y.sequence_count t.sequences)) whole
           ∙ noted_room b.sensor_id b.sequence s.sequences (passed c.frame_id s.last s.sequences b k.ok).room
           ∙ ap (noted b.sensor_id b.sequence) (ap (λ (q : State). q.sequences) (sym start_is) ∙ sym grown.sequences) in
-          let many : length e.fates ≡ length (columns p) = births_length config b.sensor_id now (places_of places) (columns p) start e bears in
-          let r : b.count ≡ length (associations_from 0 e.fates) = sym (told_length 0 e.fates ∙ many ∙ columns_length p.pairs b.observations b.count b.count sp k.seen (omega (arith, count_few k))) in
+          let long : length e.fates ≡ b.count = births_length config b.sensor_id now (places_of places) (columns p) start e bears ∙ columns_length p.pairs b.observations b.count b.count sp k.seen (omega (arith, count_few k)) in
           let most : p.unmatched_count ≤ 64 = few_numbers (meant u.from n) ds m.told.takers (few m) m.told.unmatched in
-          (λ i. given (record {
-            tracker =
-                record {
-                  tracks = laid i;
-                  track_count = (w.count ∙ sym (length-map e.state.tracks track_to)) i;
-                  next_track_id = w.next i;
-                  last_time = unwrap_or (last i) (pos 0);
-                  sequences = (ap (λ (q : Sequences). q.entries) table_is ∙ ap (λ (l : List SensorSequence). lay l t.sequences) rest) i;
-                  sequence_count = (ap (λ (q : Sequences). q.count) table_is ∙ ap length rest) i;
-                  candidates = (ap (λ (q : Candidates). q.items) left_is ∙ (λ i. lay (sym w.candidates i) (u.fields i).candidates)) i;
-                  candidate_count = (ap (λ (q : Candidates). q.count) left_is ∙ ap length (sym w.candidates)) i;
-                  settings = (whole i).settings;
-                  has_last_time = flag (last i);
-                  reserved = (whole i).reserved;
-                };
-            report =
-                record {
-                  timestamp = k.read.when i;
-                  sensor_id = b.sensor_id;
-                  associations = w.slots i;
-                  association_count = r i;
-                  unmatched_track_ids = numbers_listed m.told.unmatched i;
-                  unmatched_track_count = sym (length-take-le p.unmatched_count p.unmatched (omega (arith, most, su))) i;
-                };
-          }))
-          ∙ sym (ap (after_batch t) (by_births ∙ ap (λ (q : Reply Births). and_then q (λ w. given (done_with b (told p u.tracks) w))) bears))
+          (λ i. given (ran
+            (laid i)
+            ((w.count ∙ sym (length-map e.state.tracks track_to)) i)
+            (w.next i)
+            (sym grown.last i)
+            (k.read.when i)
+            ((table_is ∙ ap (Sequences'.over (record { entries = t.sequences; count = z.sequence_count })) rest) i)
+            ((left_is ∙ (λ j. Candidates'.over (record { items = (u.fields j).candidates; count = x.candidate_count }) (sym w.candidates j))) i)
+            (whole i)
+            (w.slots i)
+            (sym (told_length 0 e.fates ∙ long) i)
+            (numbers_listed m.told.unmatched i)
+            (sym (length-take-le p.unmatched_count p.unmatched (omega (arith, most, su))) i)))
+          ∙ sym (ap (after_batch t) (by_births ∙ ap (λ (q : Reply Births). and_then q ended) bears))

@@ -33,7 +33,7 @@ use Rattle.records.specs.Configs.{settings_of}
 use Rattle.records.specs.Trackers.{tracker_of, pk_state, pk_over}
 use Rattle.moving.proofs.Passing.{Passed}
 use Rattle.owner.specs.Owner.{after_call}
-use Rattle.owner.proofs.Carrying.{Read, keeps_pk, moves_pk, all_refused, all_carried}
+use Rattle.owner.proofs.Carrying.{Read, read_of, keeps_pk, moves_pk, all_refused, all_carried}
 
 -- the record with other tracks in its places
 abbrev pub with_pk_tracks : PkTracker → List PkTrack → PkTracker
@@ -91,13 +91,7 @@ module _ (t : PkTracker) (now : ℤ) where
     too_early when e = rw (← when, sym late_is ∙ e)
 
     pub begun : {config : Cartesian3DTrackerConfig} → config ≡ settings_of t.settings → length t.tracks ≡ 64 → length t.sequences ≡ 32 → length t.candidates ≡ 64 → late ≡ false → Begun config.lifecycle config.accel_spectral_density
-    begun is size ss sk e =
-        record {
-          read = record { rules = ap (λ (x : Cartesian3DTrackerConfig). x.lifecycle) is; density = ap (λ (x : Cartesian3DTrackerConfig). x.accel_spectral_density) is; when = refl; size = size };
-          sequences = ss;
-          candidates = sk;
-          soon = sym late_is ∙ e;
-        }
+    begun is size ss sk e = record { read = read_of is refl size; sequences = ss; candidates = sk; soon = sym late_is ∙ e }
 
   module _ {life : LifecycleConfig} {q : Float} (k : Begun life q) {time : ℤ} (when : now ≡ time) where
     answers : {r : Reply (List Track3D)} → predicted_tracks (settings_of t.settings) now s.tracks ≡ r → and_then r (λ ts. given (pk_over t (at_time now ts s))) ≡ answer time

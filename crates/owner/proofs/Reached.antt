@@ -91,6 +91,7 @@ module _ (t : PkTracker) (b : ObservationBatch3D) (config : Cartesian3DTrackerCo
     pub from : PkTracker
     pub mated : Mated from n p
     pub fields : x ≡ with_pk_tracks t x.tracks
+    pub size : length x.tracks ≡ 64
     pub tracks : List Track3D
     pub gives : each_at (λ i z. updated_or_not (update_of c b.sensor_id b.timestamp) z (mate_of p.mates b.observations i)) 0 (meant from n) ≡ given tracks
     pub slots : x.tracks ≡ lay (map track_to tracks) from.tracks

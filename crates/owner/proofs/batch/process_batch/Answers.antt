@@ -85,11 +85,10 @@ loop-k-init c =
     let v = c.loop-i.invariant in
     let few : c.loop-i.n ≤ 64 = omega (arith, v.0, v.1, v.3) in
     let m = moved_all _ _ v.8 c.taken-all.ensures (omega (arith, v.0, c.loop-i-test.false)) v.5 v.2 few v.6 in
-    let mates : length c.in_ok-paired.paired.mates ≡ 64 = search (rules, length_mapped) in
-    (search rules, few, v.2, refl, search rules, refl, stepped_start _ _, rw c.no_spot-nowhere.ensures spotted_start, v.8.seen, mates, v.2, paired_by _ _ m v.7 c.in_ok-paired.ensures)
+    (search rules, few, v.2, refl, search rules, refl, stepped_start _ _, rw c.no_spot-nowhere.ensures spotted_start, paired_by _ _ m v.7 c.in_ok-paired.ensures)
 
 pub offset_bounds-observations-place_of : goal.offset_bounds-observations-place_of
-offset_bounds-observations-place_of c = omega (arith, c.loop-k-test.true, c.loop-k.invariant.0, c.loop-k.invariant.1, c.loop-k.invariant.8, c.loop-k.invariant.9, place_few (get_or c.in_ok-paired.paired.mates c.loop-k.k 0) c.place_of.result c.place_of.ensures)
+offset_bounds-observations-place_of c = omega (arith, c.loop-k.invariant.8.moved.checked.seen, place_few (get_or c.in_ok-paired.paired.mates c.loop-k.k 0) c.place_of.result c.place_of.ensures)
 
 pub bounds-observations-place_of : goal.bounds-observations-place_of
 bounds-observations-place_of c = search (rules, place_few (get_or c.in_ok-paired.paired.mates c.loop-k.k 0) c.place_of.result c.place_of.ensures)
@@ -99,7 +98,7 @@ returns-in_err-y c =
     let p = err_from_is_err_and c.from_residual-in_err-y.result c.from_residual-in_err-y.ensures.1 in
     let v = c.loop-k.invariant in
     rw (p.1, p.2)
-    (update_refused _ _ v.11 c.update_of-update.ensures (correcting_stops _ _ _ _ v.6 c.track_of-x.ensures c.place_of.ensures c.loop-k-test.true (omega (arith, v.1, v.10)) c.in_err-y.ensures))
+    (update_refused _ _ v.8 c.update_of-update.ensures (correcting_stops _ _ _ _ v.6 c.track_of-x.ensures c.place_of.ensures c.loop-k-test.true (omega (arith, v.1, v.8.moved.places)) c.in_err-y.ensures))
 
 pub loop-k-preserved-then-not-is_confirmed_track : goal.loop-k-preserved-then-not-is_confirmed_track
 loop-k-preserved-then-not-is_confirmed_track c =
@@ -111,12 +110,9 @@ loop-k-preserved-then-not-is_confirmed_track c =
       v.3,
       omega arith,
       ap (λ (x : PkTracker). with_pk_tracks x (set c.loop-k.t.tracks c.loop-k.k c.track_to-in-loop-k.result)) v.5,
-      rw c.track_to-in-loop-k.ensures (correcting_more _ _ _ _ v.6 c.track_of-x.ensures c.place_of.ensures (omega (arith, v.1, v.10, c.loop-k-test.true)) c.in_ok-y.ensures),
+      rw c.track_to-in-loop-k.ensures (correcting_more _ _ _ _ v.6 c.track_of-x.ensures c.place_of.ensures (omega (arith, v.1, v.8.moved.places, c.loop-k-test.true)) c.in_ok-y.ensures),
       rw c.track_to-in-loop-k.ensures (spotted_same _ _ v.7 few c.is_confirmed_track.ensures c.if-not-is_confirmed_track.true),
       v.8,
-      v.9,
-      v.10,
-      v.11,
     )
 
 pub loop-k-preserved : goal.loop-k-preserved
@@ -129,27 +125,23 @@ loop-k-preserved c =
       length-set c.loop-k.spots c.loop-k.near _ ∙ v.3,
       omega arith,
       ap (λ (x : PkTracker). with_pk_tracks x (set c.loop-k.t.tracks c.loop-k.k c.track_to-in-loop-k.result)) v.5,
-      rw c.track_to-in-loop-k.ensures (correcting_more _ _ _ _ v.6 c.track_of-x.ensures c.place_of.ensures (omega (arith, v.1, v.10, c.loop-k-test.true)) c.in_ok-y.ensures),
+      rw c.track_to-in-loop-k.ensures (correcting_more _ _ _ _ v.6 c.track_of-x.ensures c.place_of.ensures (omega (arith, v.1, v.8.moved.places, c.loop-k-test.true)) c.in_ok-y.ensures),
       rw (c.track_to-in-loop-k.ensures, c.spot_of.ensures) (spotted_more _ _ v.7 few v.2 c.is_confirmed_track.ensures c.if-not-is_confirmed_track.false),
       v.8,
-      v.9,
-      v.10,
-      v.11,
     )
 
 pub returns-in_err-kept : goal.returns-in_err-kept
 returns-in_err-kept c =
     let p = err_from_is_err_and c.from_residual-in_err-kept.result c.from_residual-in_err-kept.ensures.1 in
     let v = c.loop-k.invariant in
-    let u = corrected_all v.11 c.update_of-update.ensures (omega (arith, v.0, c.loop-k-test.false)) v.5 v.6 v.7 in
+    let u = corrected_all v.8 c.update_of-update.ensures (omega (arith, v.0, c.loop-k-test.false)) v.5 v.2 v.6 v.7 in
     rw (p.1, p.2) (age_refused _ _ u c.in_err-kept.ensures)
 
 pub loop-j-init : goal.loop-j-init
 loop-j-init c =
     let v = c.loop-k.invariant in
-    let u = corrected_all v.11 c.update_of-update.ensures (omega (arith, v.0, c.loop-k-test.false)) v.5 v.6 v.7 in
-    let pairs : length c.in_ok-paired.paired.pairs ≡ 64 = search (rules, length_mapped) in
-    (search rules, count_few _ _ v.11.moved.checked, v.2, refl, pairs, v.8, v.2, refl, rw c.alone-blank_association.ensures (bearing_start c.loop-k.t _ u.stored (omega (arith, v.1, v.2))), aged_by _ _ u c.in_ok-kept.ensures)
+    let u = corrected_all v.8 c.update_of-update.ensures (omega (arith, v.0, c.loop-k-test.false)) v.5 v.2 v.6 v.7 in
+    (search rules, count_few _ _ v.8.moved.checked, v.2, refl, refl, rw c.alone-blank_association.ensures (bearing_start c.loop-k.t _ u.stored (omega (arith, v.1, v.2))), aged_by _ _ u c.in_ok-kept.ensures)
 
 pub loop-j-preserved-then-p : goal.loop-j-preserved-then-p
 loop-j-preserved-then-p c =
@@ -159,18 +151,15 @@ loop-j-preserved-then-p c =
       v.2,
       length-set c.loop-j.associations c.loop-j.j _ ∙ v.3,
       v.4,
-      v.5,
+      bearing_taken _ _ v.5 v.1 (search (rules, length_mapped)) v.6.corrected.mated.moved.checked.seen c.loop-j-test.true c.if-p.true c.paired.ensures,
       v.6,
-      v.7,
-      bearing_taken _ _ v.8 v.1 v.4 v.5 c.loop-j-test.true c.if-p.true c.paired.ensures,
-      v.9,
     )
 
 pub returns-in_err-x : goal.returns-in_err-x
 returns-in_err-x c =
     let p = err_from_is_err_and c.from_residual-in_err-x.result c.from_residual-in_err-x.ensures.1 in
     let v = c.loop-j.invariant in
-    rw (p.1, p.2) (births_refused _ _ v.9 (bearing_stops _ _ v.8 v.1 v.4 v.5 c.loop-j-test.true c.if-p.false c.in_err-x.ensures))
+    rw (p.1, p.2) (births_refused _ _ v.6 (bearing_stops _ _ v.5 v.1 (search (rules, length_mapped)) v.6.corrected.mated.moved.checked.seen c.loop-j-test.true c.if-p.false c.in_err-x.ensures))
 
 pub loop-j-preserved-in_default-begun : goal.loop-j-preserved-in_default-begun
 loop-j-preserved-in_default-begun c =
@@ -180,11 +169,8 @@ loop-j-preserved-in_default-begun c =
       v.2,
       length-set c.loop-j.associations c.loop-j.j _ ∙ v.3,
       v.4,
-      v.5,
+      bearing_alone _ _ v.5 v.1 (search (rules, length_mapped)) v.6.corrected.mated.moved.checked.seen c.loop-j-test.true c.if-p.false c.in_ok-x.ensures c.in_default-begun.is c.alone.ensures,
       v.6,
-      v.7,
-      bearing_alone _ _ v.8 v.1 v.4 v.5 c.loop-j-test.true c.if-p.false c.in_ok-x.ensures c.in_default-begun.is c.alone.ensures,
-      v.9,
     )
 
 pub offset_bounds-t-n-in-loop-j : goal.offset_bounds-t-n-in-loop-j
@@ -207,16 +193,13 @@ loop-j-preserved c =
       v.1,
       length-set c.loop-j.t.tracks c.loop-j.n _ ∙ v.2,
       length-set c.loop-j.associations c.loop-j.j _ ∙ v.3,
-      v.4,
-      v.5,
+      ap (λ (x : PkTracker). with_pk_tracks x (set c.loop-j.t.tracks c.loop-j.n c.track_to-in-loop-j.result)) v.4,
+      rw c.track_to-in-loop-j.ensures (bearing_begun _ _ v.5 v.1 (search (rules, length_mapped)) v.6.corrected.mated.moved.checked.seen c.loop-j-test.true c.if-p.false c.in_ok-x.ensures c.in-Some-begun.is (omega (arith, room.0, v.6.corrected.size)) c.begun.ensures),
       v.6,
-      ap (λ (x : PkTracker). with_pk_tracks x (set c.loop-j.t.tracks c.loop-j.n c.track_to-in-loop-j.result)) v.7,
-      rw c.track_to-in-loop-j.ensures (bearing_begun _ _ v.8 v.1 v.4 v.5 c.loop-j-test.true c.if-p.false c.in_ok-x.ensures c.in-Some-begun.is (omega (arith, room.0, v.6)) c.begun.ensures),
-      v.9,
     )
 
 pub returns : goal.returns
 returns c =
     let v = c.loop-j.invariant in
     let numbers : length c.in_ok-paired.paired.unmatched ≡ 64 = search (rules, length_mapped) in
-    batch_done _ _ v.9 v.8 (omega (arith, c.loop-j-test.false)) v.7 v.4 numbers c.note-noted.ensures c.laid-laid.ensures
+    batch_done _ _ v.6 v.5 (omega (arith, c.loop-j-test.false)) v.4 (search (rules, length_mapped)) numbers c.note-noted.ensures c.laid-laid.ensures
