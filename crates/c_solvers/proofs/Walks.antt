@@ -1,15 +1,16 @@
 -- The walk over the rows beside their pairs: each row's mate, one row more a turn. Assumes nothing.
 use Rattle.std.specs.Prelude.{None, Option, Some}
 use mathlib.Core.Path.{◌≡◌, refl, sym, ap, ◌∙◌}
-use mathlib.Core.Bool.{Bool, true, false}
+use mathlib.Core.Bool.{Bool, true, false, ◌&&◌}
 use mathlib.Core.List.{List, [], ◌∷◌, ◌++◌, map}
 use Prim.Native.Nat.{ℕ, zero, suc, ◌+◌, ◌-◌, ◌≤◌, ◌<◌}
 use native.Mathlib.Decide.{dec_lt}
 use native.Mathlib.Numerals.{add-one}
 use native.Mathlib.Omega.{arith}
 use borrow.Author.Tests.{lt-ltb, le-ltb, eq-eqb, ne_eqb, eqb-true}
-use lib.ListN.{get_or, set, length, drop, replicate, length-append, length-map, get_or-append, drop_of_length-le}
-use lib.Seq.{drop-cons}
+use lib.Dec.{ltb, eqb}
+use lib.ListN.{get_or, set, length, take, drop, replicate, length-append, length-map, get_or-append, drop_of_length-le}
+use lib.Seq.{drop-cons, get_or-take, length-take-le}
 use Rattle.lists.specs.Lay.{lay}
 use Rattle.lists.proofs.Laying.{set_lay}
 use Rattle.kuhn_munkres.specs.Assignment.{Pair, column_of, pair_at, pairs_from}
@@ -93,6 +94,14 @@ module _ (t : List (Option ℕ)) where
       go (Some c) s = absurd (n c (rw s))
 
 -- ---- the walk
+-- the pairs stand in the front of their array
+pub hits_front : (a : List ℕ) (c k i : ℕ) → c ≤ length a → hits (take c a) (length (take c a)) k i ≡ hits a c k i
+hits_front a c k i h = ap (λ (n : ℕ). ltb k n && eqb (get_or (take c a) k 0) i) (length-take-le c a h) ∙ go (dec_lt k c)
+  where
+    go : Dec (k < c) → (ltb k c && eqb (get_or (take c a) k 0) i) ≡ hits a c k i
+    go (yes l) = ap (λ (x : ℕ). ltb k c && eqb x i) (get_or-take c a k 0 l)
+    go (no n) = rw (le-ltb k c (omega arith))
+
 pub hit_below : (a : List ℕ) (c k i : ℕ) (b : Bool) → b ≡ hits a c k i → b ≡ true → k < c
 hit_below a c k i b e q = go (dec_lt k c)
   where

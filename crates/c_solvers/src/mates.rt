@@ -8,14 +8,13 @@ use assignment::AssignmentError;
 const ALONE: u64 = 0xffff_ffff_ffff_ffff;
 
 // Whether the k-th pair, if there is one, is row i's.
-fn is_next(pair_rows: &[usize; 64], count: usize, k: usize, i: usize) -> bool
-    requires { count ≤ 64 }
-    ensures { result ≡ hits pair_rows.now count k i }
+fn is_next(pair_rows: &[usize], k: usize, i: usize) -> bool
+    ensures { result ≡ hits pair_rows.now (length pair_rows.now) k i }
 {
-    k < count && pair_rows[k] == i
+    pair_rows.get(k).is_some_and(|row| *row == i)
 }
 
-// Each row's column into the first places of mates.
+// Each row's column into the first places of mates. The arrays and their count are fields of an `Assignment`, and what they hold is said of whole arrays.
 fn write_mates<'a>(
     pair_rows: &'a [usize; 64],
     pair_columns: &'a [usize; 64],
@@ -28,7 +27,7 @@ fn write_mates<'a>(
 {
     let mut k = 0usize;
     for i in 0..rows {
-        if is_next(pair_rows, count, k, i) {
+        if is_next(&pair_rows[..count], k, i) {
             mates[i] = pair_columns[k] as u64;
             k += 1;
             continue;

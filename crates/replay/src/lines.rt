@@ -28,7 +28,7 @@ impl Input {
     }
 }
 
-// Writes the first n bytes, 32 to a line.
+// Writes the first n bytes, 32 to a line. The array comes whole, since its zeros fill the last line.
 fn write_bytes(rt: &impl Print, output: &[u8; 1024], n: usize) -> io::Result<()> {
     let (lines, _) = output.as_slice().as_chunks::<32>();
     for line in lines.iter().take(n.div_ceil(32)) {

@@ -34,7 +34,7 @@ fn code_of(why: AssignmentError) -> u64 {
     u64::from(u32::from(Refusal::from(why)))
 }
 
-// The first pairs, as row times 2^32 and column.
+// The first pairs, as row times 2^32 and column. Here and below `take` asks nothing of the count, of which a slice would ask that it is at most 64.
 fn push_pairs(items: &mut Words<192>, rows: &[usize; 64], columns: &[usize; 64], count: usize) {
     for (row, column) in rows.iter().zip(columns).take(count) {
         items.push((row % 4294967296 * 4294967296 + column % 4294967296) as u64);
