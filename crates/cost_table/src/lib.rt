@@ -24,7 +24,7 @@ fn cost_of(ruling: Ruling) -> f64
 {
     match ruling {
         Ruling::Allowed(cost) => cost,
-        Ruling::Forbidden(_) => f64::from_bits(0x7ff0_0000_0000_0000),
+        Ruling::Forbidden(_) => f64::INFINITY,
     }
 }
 

@@ -1,7 +1,6 @@
--- By the ruling: a cost, or +infinity for a pair that a rule forbids.
 use mathlib.Core.Path.{◌≡◌, refl, sym, ap, ◌∙◌}
 use mathlib.Core.Bool.{false}
-use lib.Ieee.{inf, binary64, of_bits, of_fields, nan_bits}
+use lib.Ieee.{inf, binary64, of_bits, of_fields}
 use Rattle.calls.specs.Pairing.{cost_of}
 use Rattle.cost_table.proofs.cost_of.Goals as goal
 
@@ -9,13 +8,6 @@ use Rattle.cost_table.proofs.cost_of.Goals as goal
 infinite : of_bits binary64 0x7ff0_0000_0000_0000 ≡ inf false
 unfolding of_bits of_fields
 infinite = refl
-
-pub float_from_bits-result : goal.float_from_bits-result
-unfolding nan_bits
-float_from_bits-result c = tt
-
-pub returns-in-Allowed : goal.returns-in-Allowed
-returns-in-Allowed c = sym (ap cost_of c.in-Allowed.is)
 
 pub returns-in-Forbidden : goal.returns-in-Forbidden
 returns-in-Forbidden c = infinite ∙ sym (ap cost_of c.in-Forbidden.is)
