@@ -1,5 +1,5 @@
 -- A batch on the record by its parts: what a refusal of each says of the whole, what each leaves to the next, and the answer where none refuses. Assumes nothing.
-use Rattle.std.specs.Prelude.{Err, Ok, Option, Result, Some, pos, unwrap_or}
+use Rattle.std.specs.Prelude.{Err, Ok, Option, Result, Some}
 use mathlib.Core.Path.{◌≡◌, refl, sym, ap, ◌∙◌}
 use mathlib.Core.Bool.{false}
 use mathlib.Core.List.{List, map}
@@ -14,6 +14,7 @@ use lib.ListN.{length, take, replicate, length-map, length-take}
 use lib.Seq.{length-take-le}
 use Rattle.number.specs.Reply.{Reply, refused, given, and_then}
 use Rattle.lists.specs.Lay.{lay}
+use Rattle.lists.specs.Table.{table, over_table}
 use Rattle.lists.specs.Sift.{sift}
 use Rattle.lists.specs.Each.{each, each_at}
 use Rattle.lists.proofs.Each.{each_length}
@@ -23,6 +24,7 @@ use Rattle.kuhn_munkres.specs.Takers.{taken_by}
 use Rattle.settings.specs.declared.Cartesian3DTrackerConfig.{Cartesian3DTrackerConfig}
 use Rattle.detections.specs.declared.Detection.{Detection}
 use Rattle.types.specs.declared.batch.ObservationBatch3D.{ObservationBatch3D}
+use Rattle.types.specs.declared.batch.BatchReport3D.{BatchReport3D}
 use Rattle.types.specs.declared.batch.ObservationAssociation.{ObservationAssociation}
 use Rattle.types.specs.declared.refusal.Refusal.{Refusal}
 use Rattle.types.specs.declared.track.Track3D.{Track3D}
@@ -38,18 +40,18 @@ use Rattle.tables.specs.Sequences as Sequences'
 use Rattle.batches.specs.Check.{batch_reply}
 use Rattle.calls.specs.Predict.{at_time, predicted_tracks}
 use Rattle.calls.specs.Pairing.{pair_config}
-use Rattle.calls.specs.Update.{Column, Matched, updates, matched_with, matched}
+use Rattle.calls.specs.Update.{Column, Matched, matched_with, matched}
 use Rattle.calls.specs.Births.{Births, remaining, with_candidates, confirmed_places, births_of}
-use Rattle.calls.specs.Process.{Done, associations_from, done_with, finished, process_reply}
+use Rattle.calls.specs.Process.{Done, done_with, finished, process_reply}
 use Rattle.calls.proofs.Accepted.{passed, noted_room}
 use Rattle.calls.proofs.Spawning.{births_length}
 use Rattle.moving.proofs.Passing.{Passed}
 use Rattle.pairing.specs.declared.Row.{Row}
-use Rattle.association.specs.Told.{mate_of, columns_from, Listed}
+use Rattle.association.specs.Told.{mate_of, columns_from}
 use Rattle.association.proofs.Telling.{unmatched_few}
 use Rattle.association.proofs.Ties.{listed_told}
 use Rattle.matching.specs.declared.Paired.{Paired}
-use Rattle.matching.specs.Stage.{takers_for, rows_taken, unmatched_in, Matches, RowsMatch}
+use Rattle.matching.specs.Stage.{takers_for, rows_taken, Matches, RowsMatch}
 use Rattle.matching.proofs.Ties.{rows_matched, stage_refused, stage_given}
 use Rattle.updating.specs.declared.Update.{Update}
 use Rattle.updating.specs.Updates.{update_of, updated_or_not}
@@ -62,12 +64,12 @@ use Rattle.spawning.specs.Ruling.{places_of}
 use Rattle.birth_stage.proofs.Walking.{told_length, columns_length}
 use Rattle.birth_stage.proofs.Growing.{Grows, births_grow}
 use Rattle.stages.proofs.Taking.{updates_by_mates}
-use Rattle.flags.specs.Flags.{flag, flagged}
+use Rattle.flags.specs.Flags.{flagged}
 use Rattle.records.specs.declared.tracks.PkTrack.{PkTrack}
 use Rattle.records.specs.declared.tracker.PkTracker.{PkTracker}
 use Rattle.records.specs.Tracks.{track_of, track_to}
 use Rattle.records.specs.Configs.{settings_of}
-use Rattle.records.specs.Trackers.{tracker_of, pk_state, pk_over}
+use Rattle.records.specs.Trackers.{tracker_of, pk_state, pk_over, with_pk_parts}
 use Rattle.owner.specs.declared.batch.Ran.{Ran}
 use Rattle.owner.specs.Processes.{after_batch}
 use Rattle.owner.proofs.Predicting.{with_pk_tracks}
@@ -76,32 +78,6 @@ use Rattle.owner.proofs.Reached.{unmarked, meant, meant_is, start_at, Checked, M
 use Rattle.owner.proofs.Noting.{Noted, noted_front}
 use Rattle.owner.proofs.Correcting.{steps_pk, updates_refused}
 use Rattle.owner.proofs.Bearing.{Bearing, bearing_end}
-
--- ---- the numbers of the tracks that took none
-
-numbers_listed : {l ids : List ℕ} {count : ℕ} → Listed l ids count → ids ≡ lay (take count ids) (replicate 64 0)
-numbers_listed {l} {ids} {count} h = h.slots ∙ ap (λ (q : List ℕ). lay q (replicate 64 0)) (sym (listed_told l ids count h))
-
-few_numbers : (ts : List Track3D) (ds : List Detection) (takers : List (Option ℕ)) {ids : List ℕ} {count : ℕ} → length ts ≤ 64 → Listed (unmatched_in ts ds takers) ids count → count ≤ 64
-few_numbers ts ds takers h l = omega (arith, l.many, unmatched_few (taken_by takers ds) 0 ts, h)
-
--- ---- the record and the report, as they are at the end
-
-abbrev record_of : List PkTrack → ℕ → ℕ → Option ℤ → Sequences → Candidates → PkTracker → PkTracker
-record_of tracks n id last table left x =
-    record {
-      tracks = tracks;
-      track_count = n;
-      next_track_id = id;
-      last_time = unwrap_or last (pos 0);
-      sequences = table.entries;
-      sequence_count = table.count;
-      candidates = left.items;
-      candidate_count = left.count;
-      settings = x.settings;
-      has_last_time = flag last;
-      reserved = x.reserved;
-    }
 
 module _ (t : PkTracker) (b : ObservationBatch3D) where
   abbrev c : Cartesian3DTrackerConfig
@@ -124,14 +100,11 @@ module _ (t : PkTracker) (b : ObservationBatch3D) where
 
   -- ---- the check, which the code makes of what the record means
 
-  abbrev check : Reply (Unit {0})
-  check = batch_reply c.frame_id s.last s.sequences b
-
   module _ {config : Cartesian3DTrackerConfig} {last : Option ℤ} (is : config ≡ c) (told : last ≡ flagged t.has_last_time (to_z w64 (of_z w64 t.last_time))) (fits : SFits w64 t.last_time) where
     abbrev asked : Reply (Unit {0})
     asked = batch_reply config.frame_id last (take t.sequence_count t.sequences) b
 
-    check_is : asked ≡ check
+    check_is : asked ≡ batch_reply c.frame_id s.last s.sequences b
     unfolding state_of tracker_of sequences_of
     check_is = rw (is, told, to_z-of_z fits)
 
@@ -144,9 +117,6 @@ module _ (t : PkTracker) (b : ObservationBatch3D) where
 
   -- ---- the tracks at the batch's time
 
-  abbrev predicted : Reply (List Track3D)
-  predicted = predicted_tracks c b.timestamp s.tracks
-
   -- stages 4 to 9, and 7 to 9 of them
   abbrev finishing : Reply Matched → Reply Done
   finishing r = and_then r (finished c s b)
@@ -158,9 +128,9 @@ module _ (t : PkTracker) (b : ObservationBatch3D) where
   pairing r = and_then r (λ ms. rest (map (with_mark false) ms))
 
   module _ {config : Cartesian3DTrackerConfig} {now : ℤ} (k : Checked t b config now) where
-    by_moved : reply ≡ pairing predicted
+    by_moved : reply ≡ pairing (predicted_tracks c b.timestamp s.tracks)
     unfolding process_reply matched batch_of
-    by_moved = rw k.ok (go predicted)
+    by_moved = rw k.ok (go (predicted_tracks c b.timestamp s.tracks))
       where
         go : (r : Reply (List Track3D)) → and_then (and_then r (λ ms. matched_with c b.sensor_id b.timestamp ds (map (with_mark false) ms))) (finished c s b) ≡ pairing r
         go (refused n) = refl
@@ -240,11 +210,8 @@ module _ (t : PkTracker) (b : ObservationBatch3D) where
 
   -- ---- the candidates' ages
 
-  abbrev born : Paired → List Track3D → List BirthCandidate → Reply Births
-  born p us l = births_of c b.sensor_id b.timestamp (confirmed_places us) (columns p) (with_candidates l (at_time b.timestamp us s))
-
   abbrev joining : Paired → List Track3D → Reply (List BirthCandidate) → Reply Done
-  joining p us r = and_then r (λ l. and_then (born p us l) (λ w. given (done_with b (told p us) w)))
+  joining p us r = and_then r (λ l. and_then (births_of c b.sensor_id b.timestamp (confirmed_places us) (columns p) (with_candidates l (at_time b.timestamp us s))) (λ w. given (done_with b (told p us) w)))
 
   abbrev ages : Reply (List BirthCandidate)
   ages = remaining c.birth_candidate_timeout_ns b.timestamp s.candidates
@@ -277,10 +244,7 @@ module _ (t : PkTracker) (b : ObservationBatch3D) where
     abbrev start : State
     start = start_at x n x.next_track_id now (list_of kept)
 
-    abbrev begin : State
-    begin = with_candidates (list_of kept) (at_time b.timestamp a.corrected.tracks s)
-
-    start_is : start ≡ begin
+    start_is : start ≡ with_candidates (list_of kept) (at_time b.timestamp a.corrected.tracks s)
     unfolding state_of tracker_of sequences_of
     start_is =
         let u = a.corrected in
@@ -331,19 +295,15 @@ module _ (t : PkTracker) (b : ObservationBatch3D) where
       grown : Grows start e.state
       grown = births_grow config b.sensor_id now (places_of places) (columns p) start e bears
 
-      abbrev ran : List PkTrack → ℕ → ℕ → Option ℤ → ℤ → Sequences → Candidates → PkTracker → List ObservationAssociation → ℕ → List ℕ → ℕ → Ran
-      ran tracks n id last time table left x told count numbers many =
+      abbrev report : ℤ → List ObservationAssociation → ℕ → List ℕ → ℕ → BatchReport3D
+      report time told count numbers many =
           record {
-            tracker = record_of tracks n id last table left x;
-            report =
-                record {
-                  timestamp = time;
-                  sensor_id = b.sensor_id;
-                  associations = told;
-                  association_count = count;
-                  unmatched_track_ids = numbers;
-                  unmatched_track_count = many;
-                };
+            timestamp = time;
+            sensor_id = b.sensor_id;
+            associations = told;
+            association_count = count;
+            unmatched_track_ids = numbers;
+            unmatched_track_count = many;
           }
 
       -- each store lies over the one before it
@@ -360,29 +320,28 @@ module _ (t : PkTracker) (b : ObservationBatch3D) where
           ∙ ap (lay (map track_to ts)) m.moved.slots ∙ lay_lay (map track_to ts) (map track_to ms) t.tracks (longer ms (omega (arith, us, vs, g)))
 
       -- the sequence is noted, and the candidates that are left are laid over those that it had
-      pub batch_done : {table : Sequences} {left : Candidates} → table ≡ Sequences'.over (record { entries = t.sequences; count = z.sequence_count }) (noted_in 32 b.sensor_id b.sequence (take z.sequence_count t.sequences))
+      pub batch_done : {sequences : Sequences} {left : Candidates} → sequences ≡ Sequences'.over (record { entries = t.sequences; count = z.sequence_count }) (noted_in 32 b.sensor_id b.sequence (take z.sequence_count t.sequences))
           → left ≡ Candidates'.over (record { items = x.candidates; count = x.candidate_count }) (list_of kept')
-          → given (ran z.tracks n' id (Some now) now table left z associations b.count p.unmatched p.unmatched_count) ≡ answer
+          → given (record {
+            tracker = with_pk_parts id (Some now) (table z.tracks n') (table sequences.entries sequences.count) (table left.items left.count) z;
+            report = report now associations b.count p.unmatched p.unmatched_count;
+          })
+          ≡ answer
       unfolding pk_over done_with state_of sequences_of tracker_of whole_report over_report
-      batch_done {table} {left} table_is left_is =
+      batch_done {sequences} {left} sequences_are left_are =
           let whole : z ≡ with_pk_tracks t z.tracks = fields ∙ ap (λ (y : PkTracker). with_pk_tracks y z.tracks) u.fields in
           let rest : noted_in 32 b.sensor_id b.sequence (take z.sequence_count t.sequences) ≡ noted b.sensor_id b.sequence e.state.sequences =
           ap (λ (y : PkTracker). noted_in 32 b.sensor_id b.sequence (take y.sequence_count t.sequences)) whole
           ∙ noted_room b.sensor_id b.sequence s.sequences (passed c.frame_id s.last s.sequences b k.ok).room
           ∙ ap (noted b.sensor_id b.sequence) (ap (λ (q : State). q.sequences) (sym start_is) ∙ sym grown.sequences) in
           let long : length e.fates ≡ b.count = births_length config b.sensor_id now (places_of places) (columns p) start e bears ∙ columns_length p.pairs b.observations b.count b.count sp k.seen (omega (arith, count_few k)) in
-          let most : p.unmatched_count ≤ 64 = few_numbers (meant u.from n) ds m.told.takers (few m) m.told.unmatched in
-          (λ i. given (ran
-            (laid i)
-            ((w.count ∙ sym (length-map e.state.tracks track_to)) i)
-            (w.next i)
-            (sym grown.last i)
-            (k.read.when i)
-            ((table_is ∙ ap (Sequences'.over (record { entries = t.sequences; count = z.sequence_count })) rest) i)
-            ((left_is ∙ (λ j. Candidates'.over (record { items = (u.fields j).candidates; count = x.candidate_count }) (sym w.candidates j))) i)
-            (whole i)
-            (w.slots i)
-            (sym (told_length 0 e.fates ∙ long) i)
-            (numbers_listed m.told.unmatched i)
-            (sym (length-take-le p.unmatched_count p.unmatched (omega (arith, most, su))) i)))
+          let most : p.unmatched_count ≤ 64 = omega (arith, m.told.unmatched.many, unmatched_few (taken_by m.told.takers ds) 0 (meant u.from n), few m) in
+          let places_now : table z.tracks n' ≡ over_table (map track_to e.state.tracks) t.tracks = λ i. table (laid i) ((w.count ∙ sym (length-map e.state.tracks track_to)) i) in
+          let sequences_now = ap (λ (q : Sequences). table q.entries q.count) sequences_are ∙ ap (λ (l : List SensorSequence). over_table l t.sequences) rest in
+          let left_now = ap (λ (q : Candidates). table q.items q.count) left_are ∙ (λ i. over_table (sym w.candidates i) (u.fields i).candidates) in
+          let numbers = m.told.unmatched.slots ∙ ap (λ (q : List ℕ). lay q (replicate 64 0)) (sym (listed_told _ p.unmatched p.unmatched_count m.told.unmatched)) in
+          (λ i. given (record {
+            tracker = with_pk_parts (w.next i) (sym grown.last i) (places_now i) (sequences_now i) (left_now i) (whole i);
+            report = report (k.read.when i) (w.slots i) (sym (told_length 0 e.fates ∙ long) i) (numbers i) (sym (length-take-le p.unmatched_count p.unmatched (omega (arith, most, su))) i);
+          }))
           ∙ sym (ap (after_batch t) (by_births ∙ ap (λ (q : Reply Births). and_then q ended) bears))

@@ -1,5 +1,5 @@
 -- What the prediction of the record answers: refused before it begins, by a track, or carried out. Assumes nothing.
-use Rattle.std.specs.Prelude.{Option}
+use Rattle.std.specs.Prelude.{Option, Some}
 use mathlib.Core.Path.{◌≡◌, refl, sym, ap, ◌∙◌}
 use mathlib.Core.Bool.{Bool, true, false}
 use mathlib.Core.List.{List}
@@ -14,6 +14,7 @@ use lib.ListN.{length, take, length-map}
 use Rattle.number.specs.Reply.{Reply, refused, given, and_then}
 use Rattle.lists.specs.Sift.{sift}
 use Rattle.lists.specs.Each.{each}
+use Rattle.lists.specs.Table.{table, over_table}
 use Rattle.lists.proofs.Laying.{lay_own}
 use Rattle.lists.proofs.Tables.{rows, rows_length}
 use Rattle.lifecycle.specs.declared.LifecycleConfig.{LifecycleConfig}
@@ -30,7 +31,7 @@ use Rattle.records.specs.declared.tracks.PkTrack.{PkTrack}
 use Rattle.records.specs.declared.tracker.PkTracker.{PkTracker}
 use Rattle.records.specs.Tracks.{track_to}
 use Rattle.records.specs.Configs.{settings_of}
-use Rattle.records.specs.Trackers.{tracker_of, pk_state, pk_over}
+use Rattle.records.specs.Trackers.{tracker_of, pk_state, pk_over, with_pk_parts}
 use Rattle.moving.proofs.Passing.{Passed}
 use Rattle.owner.specs.Owner.{after_call}
 use Rattle.owner.proofs.Carrying.{Read, read_of, keeps_pk, moves_pk, all_refused, all_carried}
@@ -65,6 +66,11 @@ number_above refusal.NonFiniteResult = omega arith
 number_above refusal.AssignmentFailed = omega arith
 number_above refusal.TooMany = omega arith
 number_above refusal.InvalidPrior = omega arith
+
+-- a table whose count is cut to its length is what its own list lies over
+as_it_was : {A : Type 0} (l : List A) (count : ℕ) {most n : ℕ} → length l ≡ most → n ≡ min count most → table l n ≡ over_table (take count l) l
+as_it_was l count {most} {n} size e =
+    λ i. table (sym (lay_own count l) i) ((e ∙ sym (ap length (rows l most count n size e) ∙ rows_length l most count n size e ∙ e)) i)
 
 module _ (t : PkTracker) (now : ℤ) where
   abbrev s : State
@@ -108,36 +114,17 @@ module _ (t : PkTracker) (now : ℤ) where
     -- the record that the loop left, at the time
     pub all_at_time : (x : PkTracker) {all i j n d : ℕ} → all ≡ min t.track_count 64 → i ≡ all → x ≡ with_pk_tracks t x.tracks → n ≡ min x.sequence_count 32 → d ≡ min x.candidate_count 64
         → Passed (keeps_pk life now) (moves_pk track_to q now) t.tracks x.tracks i j
-        → given (record {
-          tracks = x.tracks;
-          track_count = j;
-          next_track_id = x.next_track_id;
-          last_time = now;
-          sequences = x.sequences;
-          sequence_count = n;
-          candidates = x.candidates;
-          candidate_count = d;
-          settings = x.settings;
-          has_last_time = 1;
-          reserved = x.reserved;
-        })
-        ≡ answer time
+        → given (with_pk_parts x.next_track_id (Some now) (table x.tracks j) (table x.sequences n) (table x.candidates d) x) ≡ answer time
     unfolding pk_over state_of sequences_of candidates_of tracker_of
     all_at_time x {n = n} {d = d} taken h e en ed p =
         let z = all_carried k.read track_to taken h p in
         let ns : n ≡ min t.sequence_count 32 = en ∙ ap (λ (y : PkTracker). min y.sequence_count 32) e in
         let ds : d ≡ min t.candidate_count 64 = ed ∙ ap (λ (y : PkTracker). min y.candidate_count 64) e in
-        (λ i. given (record {
-          tracks = z.slots i;
-          track_count = (z.count ∙ sym (length-map z.tracks track_to)) i;
-          next_track_id = (e i).next_track_id;
-          last_time = now;
-          sequences = (ap (λ (y : PkTracker). y.sequences) e ∙ sym (lay_own t.sequence_count t.sequences)) i;
-          sequence_count = (ns ∙ sym (ap length (rows t.sequences 32 t.sequence_count n k.sequences ns) ∙ rows_length t.sequences 32 t.sequence_count n k.sequences ns ∙ ns)) i;
-          candidates = (ap (λ (y : PkTracker). y.candidates) e ∙ sym (lay_own t.candidate_count t.candidates)) i;
-          candidate_count = (ds ∙ sym (ap length (rows t.candidates 64 t.candidate_count d k.candidates ds) ∙ rows_length t.candidates 64 t.candidate_count d k.candidates ds ∙ ds)) i;
-          settings = (e i).settings;
-          has_last_time = 1;
-          reserved = (e i).reserved;
-        }))
+        (λ i. given (with_pk_parts
+        (e i).next_track_id
+        (Some now)
+        (table (z.slots i) ((z.count ∙ sym (length-map z.tracks track_to)) i))
+        ((ap (λ (y : PkTracker). table y.sequences n) e ∙ as_it_was t.sequences t.sequence_count k.sequences ns) i)
+        ((ap (λ (y : PkTracker). table y.candidates d) e ∙ as_it_was t.candidates t.candidate_count k.candidates ds) i)
+        (e i)))
         ∙ answers z.gives

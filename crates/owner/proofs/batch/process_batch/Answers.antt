@@ -32,7 +32,6 @@ loop-i-init c =
       st,
       search rules,
       refl,
-      refl,
       passed_start _ _ _,
       rw c.blank_row-blank.ensures (noted_start c.args.t.tracks),
       checked c.args.t c.args.batch c.settings_of-config.ensures c.flagged-last.ensures (search rules) st sd (search rules) c.in_ok-validate_batch.ensures,
@@ -43,7 +42,7 @@ returns-in_err-carried c =
     let p = err_from_is_err_and c.from_residual-in_err-carried.result c.from_residual-in_err-carried.ensures.1 in
     let v = c.loop-i.invariant in
     rw (p.1, p.2)
-    (move_refused _ _ v.8 c.taken-all.ensures (carrying_stops _ _ _ unmarked _ v.6 c.track_of.ensures c.loop-i-test.true (omega (arith, v.1, v.8.read.size)) c.in_err-carried.ensures))
+    (move_refused _ _ v.7 c.taken-all.ensures (carrying_stops _ _ _ unmarked _ v.5 c.track_of.ensures c.loop-i-test.true (omega (arith, v.1, v.7.read.size)) c.in_err-carried.ensures))
 
 pub loop-i-preserved-in_default : goal.loop-i-preserved-in_default
 loop-i-preserved-in_default c =
@@ -53,10 +52,9 @@ loop-i-preserved-in_default c =
       v.2,
       omega arith,
       v.4,
-      v.5,
-      carrying_drop _ _ _ unmarked _ v.6 c.track_of.ensures (omega (arith, v.1, v.8.read.size, c.loop-i-test.true)) c.in_ok-carried.ensures c.in_default.is,
+      carrying_drop _ _ _ unmarked _ v.5 c.track_of.ensures (omega (arith, v.1, v.7.read.size, c.loop-i-test.true)) c.in_ok-carried.ensures c.in_default.is,
+      v.6,
       v.7,
-      v.8,
     )
 
 pub loop-i-preserved : goal.loop-i-preserved
@@ -66,29 +64,28 @@ loop-i-preserved c =
       v.1,
       length-set c.loop-i.t.tracks c.loop-i.n _ ∙ v.2,
       omega arith,
-      length-set c.loop-i.rows c.loop-i.n _ ∙ v.4,
-      ap (λ (x : PkTracker). with_pk_tracks x (set c.loop-i.t.tracks c.loop-i.n c.track_to.result)) v.5,
-      rw (c.track_to.ensures, c.with_mark-x.ensures) (carrying_keep _ _ _ unmarked _ v.6 c.track_of.ensures (omega (arith, v.1, v.8.read.size, c.loop-i-test.true)) c.in_ok-carried.ensures c.in-Some.is),
-      rw (c.row_of.ensures, c.track_to.ensures) (noted_more c.loop-i.t.tracks c.loop-i.rows c.loop-i.n c.with_mark-x.result (omega (arith, v.1, v.2, v.3, c.loop-i-test.true)) (omega (arith, v.1, v.3, c.loop-i-test.true)) v.7),
-      v.8,
+      ap (λ (x : PkTracker). with_pk_tracks x (set c.loop-i.t.tracks c.loop-i.n c.track_to.result)) v.4,
+      rw (c.track_to.ensures, c.with_mark-x.ensures) (carrying_keep _ _ _ unmarked _ v.5 c.track_of.ensures (omega (arith, v.1, v.7.read.size, c.loop-i-test.true)) c.in_ok-carried.ensures c.in-Some.is),
+      rw (c.row_of.ensures, c.track_to.ensures) (noted_more c.loop-i.t.tracks c.loop-i.rows c.loop-i.n c.with_mark-x.result (omega (arith, v.1, v.2, v.3, c.loop-i-test.true)) (omega (arith, v.1, v.3, c.loop-i-test.true)) v.6),
+      v.7,
     )
 
 pub returns-in_err-paired : goal.returns-in_err-paired
 returns-in_err-paired c =
     let p = err_from_is_err_and c.from_residual-in_err-paired.result c.from_residual-in_err-paired.ensures.1 in
     let v = c.loop-i.invariant in
-    let m = moved_all _ _ v.8 c.taken-all.ensures (omega (arith, v.0, c.loop-i-test.false)) v.5 v.2 (omega (arith, v.0, v.1, v.3)) v.6 in
-    rw (p.1, p.2) (pair_refused _ _ m v.7 c.in_err-paired.field-0.0 c.in_err-paired.ensures)
+    let m = moved_all _ _ v.7 c.taken-all.ensures (omega (arith, v.0, c.loop-i-test.false)) v.4 v.2 (omega (arith, v.0, v.1, v.3)) v.5 in
+    rw (p.1, p.2) (pair_refused _ _ m v.6 c.in_err-paired.field-0.0 c.in_err-paired.ensures)
 
 pub loop-k-init : goal.loop-k-init
 loop-k-init c =
     let v = c.loop-i.invariant in
     let few : c.loop-i.n ≤ 64 = omega (arith, v.0, v.1, v.3) in
-    let m = moved_all _ _ v.8 c.taken-all.ensures (omega (arith, v.0, c.loop-i-test.false)) v.5 v.2 few v.6 in
-    (search rules, few, v.2, refl, search rules, refl, stepped_start _ _, rw c.no_spot-nowhere.ensures spotted_start, paired_by _ _ m v.7 c.in_ok-paired.ensures)
+    let m = moved_all _ _ v.7 c.taken-all.ensures (omega (arith, v.0, c.loop-i-test.false)) v.4 v.2 few v.5 in
+    (search rules, few, v.2, search rules, refl, stepped_start _ _, rw c.no_spot-nowhere.ensures spotted_start, paired_by _ _ m v.6 c.in_ok-paired.ensures)
 
 pub offset_bounds-observations-place_of : goal.offset_bounds-observations-place_of
-offset_bounds-observations-place_of c = omega (arith, c.loop-k.invariant.8.moved.checked.seen, place_few (get_or c.in_ok-paired.paired.mates c.loop-k.k 0) c.place_of.result c.place_of.ensures)
+offset_bounds-observations-place_of c = omega (arith, c.loop-k.invariant.7.moved.checked.seen, place_few (get_or c.in_ok-paired.paired.mates c.loop-k.k 0) c.place_of.result c.place_of.ensures)
 
 pub bounds-observations-place_of : goal.bounds-observations-place_of
 bounds-observations-place_of c = search (rules, place_few (get_or c.in_ok-paired.paired.mates c.loop-k.k 0) c.place_of.result c.place_of.ensures)
@@ -98,7 +95,7 @@ returns-in_err-y c =
     let p = err_from_is_err_and c.from_residual-in_err-y.result c.from_residual-in_err-y.ensures.1 in
     let v = c.loop-k.invariant in
     rw (p.1, p.2)
-    (update_refused _ _ v.8 c.update_of-update.ensures (correcting_stops _ _ _ _ v.6 c.track_of-x.ensures c.place_of.ensures c.loop-k-test.true (omega (arith, v.1, v.8.moved.places)) c.in_err-y.ensures))
+    (update_refused _ _ v.7 c.update_of-update.ensures (correcting_stops _ _ _ _ v.5 c.track_of-x.ensures c.place_of.ensures c.loop-k-test.true (omega (arith, v.1, v.7.moved.places)) c.in_err-y.ensures))
 
 pub loop-k-preserved-then-not-is_confirmed_track : goal.loop-k-preserved-then-not-is_confirmed_track
 loop-k-preserved-then-not-is_confirmed_track c =
@@ -107,12 +104,11 @@ loop-k-preserved-then-not-is_confirmed_track c =
       search rules,
       v.1,
       length-set c.loop-k.t.tracks c.loop-k.k _ ∙ v.2,
-      v.3,
       omega arith,
-      ap (λ (x : PkTracker). with_pk_tracks x (set c.loop-k.t.tracks c.loop-k.k c.track_to-in-loop-k.result)) v.5,
-      rw c.track_to-in-loop-k.ensures (correcting_more _ _ _ _ v.6 c.track_of-x.ensures c.place_of.ensures (omega (arith, v.1, v.8.moved.places, c.loop-k-test.true)) c.in_ok-y.ensures),
-      rw c.track_to-in-loop-k.ensures (spotted_same _ _ v.7 few c.is_confirmed_track.ensures c.if-not-is_confirmed_track.true),
-      v.8,
+      ap (λ (x : PkTracker). with_pk_tracks x (set c.loop-k.t.tracks c.loop-k.k c.track_to-in-loop-k.result)) v.4,
+      rw c.track_to-in-loop-k.ensures (correcting_more _ _ _ _ v.5 c.track_of-x.ensures c.place_of.ensures (omega (arith, v.1, v.7.moved.places, c.loop-k-test.true)) c.in_ok-y.ensures),
+      rw c.track_to-in-loop-k.ensures (spotted_same _ _ v.6 few c.is_confirmed_track.ensures c.if-not-is_confirmed_track.true),
+      v.7,
     )
 
 pub loop-k-preserved : goal.loop-k-preserved
@@ -122,26 +118,25 @@ loop-k-preserved c =
       search rules,
       v.1,
       length-set c.loop-k.t.tracks c.loop-k.k _ ∙ v.2,
-      length-set c.loop-k.spots c.loop-k.near _ ∙ v.3,
       omega arith,
-      ap (λ (x : PkTracker). with_pk_tracks x (set c.loop-k.t.tracks c.loop-k.k c.track_to-in-loop-k.result)) v.5,
-      rw c.track_to-in-loop-k.ensures (correcting_more _ _ _ _ v.6 c.track_of-x.ensures c.place_of.ensures (omega (arith, v.1, v.8.moved.places, c.loop-k-test.true)) c.in_ok-y.ensures),
-      rw (c.track_to-in-loop-k.ensures, c.spot_of.ensures) (spotted_more _ _ v.7 few v.2 c.is_confirmed_track.ensures c.if-not-is_confirmed_track.false),
-      v.8,
+      ap (λ (x : PkTracker). with_pk_tracks x (set c.loop-k.t.tracks c.loop-k.k c.track_to-in-loop-k.result)) v.4,
+      rw c.track_to-in-loop-k.ensures (correcting_more _ _ _ _ v.5 c.track_of-x.ensures c.place_of.ensures (omega (arith, v.1, v.7.moved.places, c.loop-k-test.true)) c.in_ok-y.ensures),
+      rw (c.track_to-in-loop-k.ensures, c.spot_of.ensures) (spotted_more _ _ v.6 few v.2 c.is_confirmed_track.ensures c.if-not-is_confirmed_track.false),
+      v.7,
     )
 
 pub returns-in_err-kept : goal.returns-in_err-kept
 returns-in_err-kept c =
     let p = err_from_is_err_and c.from_residual-in_err-kept.result c.from_residual-in_err-kept.ensures.1 in
     let v = c.loop-k.invariant in
-    let u = corrected_all v.8 c.update_of-update.ensures (omega (arith, v.0, c.loop-k-test.false)) v.5 v.2 v.6 v.7 in
+    let u = corrected_all v.7 c.update_of-update.ensures (omega (arith, v.0, c.loop-k-test.false)) v.4 v.2 v.5 v.6 in
     rw (p.1, p.2) (age_refused _ _ u c.in_err-kept.ensures)
 
 pub loop-j-init : goal.loop-j-init
 loop-j-init c =
     let v = c.loop-k.invariant in
-    let u = corrected_all v.8 c.update_of-update.ensures (omega (arith, v.0, c.loop-k-test.false)) v.5 v.2 v.6 v.7 in
-    (search rules, count_few _ _ v.8.moved.checked, v.2, refl, refl, rw c.alone-blank_association.ensures (bearing_start c.loop-k.t _ u.stored (omega (arith, v.1, v.2))), aged_by _ _ u c.in_ok-kept.ensures)
+    let u = corrected_all v.7 c.update_of-update.ensures (omega (arith, v.0, c.loop-k-test.false)) v.4 v.2 v.5 v.6 in
+    (search rules, count_few _ _ v.7.moved.checked, v.2, refl, rw c.alone-blank_association.ensures (bearing_start c.loop-k.t _ u.stored (omega (arith, v.1, v.2))), aged_by _ _ u c.in_ok-kept.ensures)
 
 pub loop-j-preserved-then-p : goal.loop-j-preserved-then-p
 loop-j-preserved-then-p c =
@@ -149,17 +144,16 @@ loop-j-preserved-then-p c =
       search rules,
       v.1,
       v.2,
-      length-set c.loop-j.associations c.loop-j.j _ ∙ v.3,
-      v.4,
-      bearing_taken _ _ v.5 v.1 (search (rules, length_mapped)) v.6.corrected.mated.moved.checked.seen c.loop-j-test.true c.if-p.true c.paired.ensures,
-      v.6,
+      v.3,
+      bearing_taken _ _ v.4 v.1 (search (rules, length_mapped)) v.5.corrected.mated.moved.checked.seen c.loop-j-test.true c.if-p.true c.paired.ensures,
+      v.5,
     )
 
 pub returns-in_err-x : goal.returns-in_err-x
 returns-in_err-x c =
     let p = err_from_is_err_and c.from_residual-in_err-x.result c.from_residual-in_err-x.ensures.1 in
     let v = c.loop-j.invariant in
-    rw (p.1, p.2) (births_refused _ _ v.6 (bearing_stops _ _ v.5 v.1 (search (rules, length_mapped)) v.6.corrected.mated.moved.checked.seen c.loop-j-test.true c.if-p.false c.in_err-x.ensures))
+    rw (p.1, p.2) (births_refused _ _ v.5 (bearing_stops _ _ v.4 v.1 (search (rules, length_mapped)) v.5.corrected.mated.moved.checked.seen c.loop-j-test.true c.if-p.false c.in_err-x.ensures))
 
 pub loop-j-preserved-in_default-begun : goal.loop-j-preserved-in_default-begun
 loop-j-preserved-in_default-begun c =
@@ -167,10 +161,9 @@ loop-j-preserved-in_default-begun c =
       search rules,
       v.1,
       v.2,
-      length-set c.loop-j.associations c.loop-j.j _ ∙ v.3,
-      v.4,
-      bearing_alone _ _ v.5 v.1 (search (rules, length_mapped)) v.6.corrected.mated.moved.checked.seen c.loop-j-test.true c.if-p.false c.in_ok-x.ensures c.in_default-begun.is c.alone.ensures,
-      v.6,
+      v.3,
+      bearing_alone _ _ v.4 v.1 (search (rules, length_mapped)) v.5.corrected.mated.moved.checked.seen c.loop-j-test.true c.if-p.false c.in_ok-x.ensures c.in_default-begun.is c.alone.ensures,
+      v.5,
     )
 
 pub offset_bounds-t-n-in-loop-j : goal.offset_bounds-t-n-in-loop-j
@@ -192,14 +185,13 @@ loop-j-preserved c =
       search rules,
       v.1,
       length-set c.loop-j.t.tracks c.loop-j.n _ ∙ v.2,
-      length-set c.loop-j.associations c.loop-j.j _ ∙ v.3,
-      ap (λ (x : PkTracker). with_pk_tracks x (set c.loop-j.t.tracks c.loop-j.n c.track_to-in-loop-j.result)) v.4,
-      rw c.track_to-in-loop-j.ensures (bearing_begun _ _ v.5 v.1 (search (rules, length_mapped)) v.6.corrected.mated.moved.checked.seen c.loop-j-test.true c.if-p.false c.in_ok-x.ensures c.in-Some-begun.is (omega (arith, room.0, v.6.corrected.size)) c.begun.ensures),
-      v.6,
+      ap (λ (x : PkTracker). with_pk_tracks x (set c.loop-j.t.tracks c.loop-j.n c.track_to-in-loop-j.result)) v.3,
+      rw c.track_to-in-loop-j.ensures (bearing_begun _ _ v.4 v.1 (search (rules, length_mapped)) v.5.corrected.mated.moved.checked.seen c.loop-j-test.true c.if-p.false c.in_ok-x.ensures c.in-Some-begun.is (omega (arith, room.0, v.5.corrected.size)) c.begun.ensures),
+      v.5,
     )
 
 pub returns : goal.returns
 returns c =
     let v = c.loop-j.invariant in
     let numbers : length c.in_ok-paired.paired.unmatched ≡ 64 = search (rules, length_mapped) in
-    batch_done _ _ v.6 v.5 (omega (arith, c.loop-j-test.false)) v.4 (search (rules, length_mapped)) numbers c.note-noted.ensures c.laid-laid.ensures
+    batch_done _ _ v.5 v.4 (omega (arith, c.loop-j-test.false)) v.3 (search (rules, length_mapped)) numbers c.note-noted.ensures c.laid-laid.ensures
