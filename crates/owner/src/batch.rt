@@ -47,6 +47,7 @@ pub fn process_batch(mut t: PkTracker, batch: ObservationBatch3D) -> Result<Ran,
     let blank = pairing::blank_row();
     let mut rows = [blank; MAX_TRACKS];
     let mut n: usize = 0;
+    // By index: a track that stays is written to the record that is walked, which an iterator would hold.
     for i in 0..all {
         let carried = moving::carry(records::tracks::track_of(t.tracks[i]), time, life, density)?;
         let Some(moved) = carried else {

@@ -29,6 +29,7 @@ pub fn predict_to(mut t: PkTracker, time: i64) -> Result<PkTracker, Refusal>
     }
     let all = tables::taken(t.track_count, MAX_TRACKS);
     let mut n: usize = 0;
+    // By index: a track that stays is written to the record that is walked, which an iterator would hold.
     for i in 0..all {
         let carried = moving::carry(records::tracks::track_of(t.tracks[i]), time, life, density)?;
         let Some(x) = carried else {

@@ -74,7 +74,7 @@ pub extern "C" fn probe_predict(
     lay(filter::predict(f, dt, q), state, covariance)
 }
 
-// The filter after a position z was measured, with the covariance `noise`.
+// The filter after a position z was measured, with the covariance `noise`. One function for a position and one for a velocity, as the names that C programs call are.
 #[unsafe(no_mangle)]
 pub extern "C" fn probe_update_position(
     state: &mut [f64; 6],

@@ -22,7 +22,7 @@ fn position_row(x: [f64; 6], y: [f64; 6], dt: f64) -> [f64; 6]
     )
 }
 
-// A row of F P: the velocities' row x as it is.
+// A row of F P: the velocities' row x as it is. Not one function with that above, as no second row and no product is in it.
 fn velocity_row(x: [f64; 6]) -> [f64; 6]
     ensures { result ≡ tabulate 6 (λ j. add binary64 (item x j) nought) }
 {
