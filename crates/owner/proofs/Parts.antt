@@ -117,7 +117,7 @@ module _ (t : PkTracker) (b : ObservationBatch3D) where
 
   -- ---- the tracks at the batch's time
 
-  -- stages 4 to 9, and 7 to 9 of them
+  -- what is left after the updates, and stages 4 to 9
   abbrev finishing : Reply Matched → Reply Done
   finishing r = and_then r (finished c s b)
 
@@ -285,9 +285,6 @@ module _ (t : PkTracker) (b : ObservationBatch3D) where
 
       abbrev e : Births
       e = w.so_far
-
-      abbrev done : Done
-      done = done_with b (told p u.tracks) e
 
       bears : births_of config b.sensor_id now (places_of places) (columns p) start ≡ given e
       bears = bearing_end p.pairs b.observations w (count_few k) sp k.seen over
