@@ -18,13 +18,6 @@ use Rattle.assignment.specs.Forest.{Labelled, Ranked, Found}
 use Rattle.assignment.specs.Labelling.{or_item, item_label, LastRows, Passed, AtRoot, ReadOff, row_or, NamedBy}
 use Rattle.assignment.proofs.Items.{item_row, item_col}
 
-pub own_upto : (par : List ℕ) (x : ℕ) → length par ≡ 128 → x < 128 → ((k : ℕ) → k < x → get_or par k 0 ≡ k) → (length (set par x x) ≡ 128) × ((k : ℕ) → k < x + 1 → get_or (set par x x) k 0 ≡ k)
-own_upto par x l h f = (length-set par x x ∙ l, λ k g. at k g (ℕ_discrete k x))
-  where
-    at : (k : ℕ) → k < x + 1 → Dec (k ≡ x) → get_or (set par x x) k 0 ≡ k
-    at k g (yes e) = rw e (get_or-set_same par x x 0 (rw l h))
-    at k g (no n) = get_or-set_other par x k x 0 n ∙ f k (omega arith)
-
 pub last_none : (label : ℕ → ℕ) (par : List ℕ) → LastRows label 0 par (replicate 128 64)
 last_none label par =
     record {

@@ -1,7 +1,7 @@
 -- What the tests on the way of a detection's check say of its definition, and what a detection that passes it has. Assumes nothing.
 use mathlib.Core.Path.{◌≡◌, sym}
-use mathlib.Core.Bool.{true, false, ◌&&◌}
-use Rattle.number.specs.Reply.{refused, given}
+use mathlib.Core.Bool.{true, ◌&&◌}
+use Rattle.number.specs.Reply.{given}
 use Rattle.number.proofs.Replies.{past_test}
 use Rattle.number.proofs.Zeros.{both}
 use Rattle.matrix.specs.Flat.{rows_of}
@@ -11,14 +11,6 @@ use Rattle.detections.specs.declared.Detection.{Detection}
 use Rattle.detections.specs.Detection.{finite_velocity, detection_reply}
 
 module _ (d : Detection) where
-  pub covariance_decides : (finite_vector 3 d.position && finite_velocity d.velocity) ≡ true → validated 3 (rows_of 3 3 d.covariance) ≡ detection_reply d
-  unfolding detection_reply
-  covariance_decides t = rw t
-
-  pub not_finite : (finite_vector 3 d.position && finite_velocity d.velocity) ≡ false → refused 5 ≡ detection_reply d
-  unfolding detection_reply
-  not_finite f = rw f
-
   module _ (passed : detection_reply d ≡ given tt) where
     finite_parts : (finite_vector 3 d.position ≡ true) × (finite_velocity d.velocity ≡ true)
     unfolding detection_reply

@@ -1,7 +1,7 @@
 -- What stores do to a table, as the list that it holds. Assumes nothing.
-use Rattle.std.specs.Prelude.{None, Some, slice_get}
-use mathlib.Core.Path.{◌≡◌, refl, ap, sym, subst, ◌∙◌}
-use mathlib.Core.Bool.{Bool, true}
+use Rattle.std.specs.Prelude.{Some, slice_get}
+use mathlib.Core.Path.{◌≡◌, refl, ap, sym, ◌∙◌}
+use mathlib.Core.Bool.{true}
 use mathlib.Core.List.{List, [], ◌∷◌, ◌++◌, map}
 use Prim.Native.Nat.{ℕ, suc, ◌+◌, ◌-◌, ◌≤◌, ◌<◌, min}
 use native.Mathlib.Decide.{dec_le}
@@ -13,8 +13,7 @@ use lib.Seq.{length-take-le, get_or-take, take-take, take-set-le, take-set-lt, d
 use Rattle.lists.specs.Lay.{lay}
 use Rattle.lists.specs.Table.{table, over_table, pushed, inserted, swap_remove}
 use Rattle.std.proofs.lemmas.Option.{slice_get-get_or}
-use Rattle.lists.specs.First.{first_at}
-use Rattle.lists.proofs.Loops.{Mapped, Missed, missed_first, missed_nowhere}
+use Rattle.lists.proofs.Loops.{Mapped}
 use Rattle.lists.proofs.Laying.{lay_front, push_lay, store_lay, take_min}
 
 -- the count itself tells whether there is room
@@ -49,13 +48,6 @@ module _ {A : Type 0} (a : List A) (most count n : ℕ) (size : length a ≡ mos
   -- nothing is stored
   pub unchanged : (op : List A → List A) → op (take n a) ≡ take n a → table a n ≡ over_table (op (take count a)) a
   unchanged op e = laid op (take n a) a n e (sym (lay_front n a within)) (sym rows_length)
-
-  -- a search that ends at i, and one that ends at no place
-  pub found : (p : A → Bool) (d : A) (i : ℕ) → Missed p d a i → i < n → p (get_or a i d) ≡ true → first_at p (take count a) ≡ Some i
-  found p d i s h e = ap (first_at p) rows ∙ missed_first p d a n i s within h e
-
-  pub nowhere : (p : A → Bool) (d : A) (i : ℕ) → Missed p d a i → i ≡ n → first_at p (take count a) ≡ None
-  nowhere p d i s e = ap (first_at p) rows ∙ missed_nowhere p d a n (subst (Missed p d a) e s) within
 
   -- all are changed
   pub mapped : (f : A → A) (m : List A) (i : ℕ) → Mapped f a m i → i ≡ n → table m n ≡ over_table (map f (take count a)) a

@@ -25,9 +25,6 @@ use Rattle.cascade.specs.Stages.{CascadeAnswer}
 use Rattle.matching.specs.Takers.{rows_paired, Takes}
 
 module _ {A B : Type 0} (f : A → Reply B) (l : List A) (before after : List B) where
-  pub laid_long : (r : Reply (Unit {0})) → Laid f l 0 r before after → length after ≡ length before
-  laid_long r s = ap length s.content ∙ length-sets before 0 (front f l)
-
   -- all were given: their answers are the front of the array
   laid_front : length l ≤ length before → Laid f l 0 (given tt) before after → each f l ≡ given (take (length l) after)
   laid_front h s =

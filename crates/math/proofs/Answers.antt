@@ -8,9 +8,8 @@ use Rattle.number.specs.Reply.{Reply, refused, given, refuse_unless}
 use Rattle.matrix.specs.Matrix.{Vector, Matrix, nought, dot}
 use Rattle.finite.specs.Finite.{finite_vector, finite_matrix}
 use Rattle.symmetry.specs.Symmetry.{is_symmetric}
-use Rattle.cholesky.specs.Cholesky.{cholesky}
 use Rattle.solving.specs.Solving.{solved}
-use Rattle.math.specs.Linalg.{entries_checked, entries_reply, distance_reply, distance_by, squared_distance}
+use Rattle.math.specs.Linalg.{entries_checked, entries_reply, distance_reply, distance_by}
 
 -- ---- a squared distance
 
@@ -36,30 +35,9 @@ module _ (n : ℕ) (l : Matrix) (u : Vector) where
   unfolding distance_by
   solution_infinite f = rw f
 
-module _ (n : ℕ) (u : Vector) (s : Matrix) where
-  pub factor_given : {l : Matrix} {r : Reply Float} → given l ≡ cholesky n s → r ≡ distance_by n l u → r ≡ squared_distance n u s
-  unfolding squared_distance
-  factor_given e f = rw (← e) f
-
-  pub factor_refused : {m : ℕ} → refused m ≡ cholesky n s → refused m ≡ squared_distance n u s
-  unfolding squared_distance
-  factor_refused e = rw (← e)
-
 -- ---- a covariance
 
 module _ (n : ℕ) (a : Matrix) where
-  pub entries_finite : finite_matrix n n a ≡ true → is_symmetric n a ≡ true → given tt ≡ entries_reply n a
-  unfolding entries_checked
-  entries_finite f s = rw (f, s)
-
-  pub not_symmetric : {A : Type 0} (r : Reply A) → finite_matrix n n a ≡ true → is_symmetric n a ≡ false → refused 6 ≡ entries_checked n a r
-  unfolding entries_checked
-  not_symmetric r f s = rw (f, s)
-
-  pub not_finite : {A : Type 0} (r : Reply A) → finite_matrix n n a ≡ false → refused 5 ≡ entries_checked n a r
-  unfolding entries_checked
-  not_finite r f = rw f
-
   -- what the entries' own check says of every reply behind it
   pub entries_pass : {A : Type 0} (r : Reply A) → given tt ≡ entries_reply n a → r ≡ entries_checked n a r
   unfolding entries_checked
