@@ -1,4 +1,4 @@
--- The loops that move the tracks of the record: the laws of a turn, and what a prediction has at the end. Assumes nothing.
+-- The loops that move the tracks of the record: the laws of a turn, and what they leave at the end. Assumes nothing.
 use Rattle.std.specs.Prelude.{None, Option, Some}
 use mathlib.Core.Path.{◌≡◌, refl, sym, ap, ◌∙◌}
 use mathlib.Core.List.{List, map}

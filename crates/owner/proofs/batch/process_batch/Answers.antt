@@ -1,4 +1,4 @@
--- The loops keep the laws of Noting, Correcting and Bearing. What the batch had come to before a loop stands in its invariant (Reached); each refusal is one law of Parts, and so is the end.
+-- The loops keep the laws of Carrying, Noting, Correcting and Bearing. What the batch had come to before a loop stands in its invariant (Reached); each refusal is one law of Parts, and so is the end.
 use Rattle.std.proofs.lemmas.Result.{err_from_is_err_and}
 use mathlib.Core.Path.{◌≡◌, refl, ap, ◌∙◌}
 use Prim.Native.Nat.{◌≤◌, ◌<◌}
