@@ -1,4 +1,5 @@
 // The Cholesky factor of a matrix of N rows, whether there is one, that is, whether the matrix counts as positive definite, and the root of a pivot. Each answer is equal bit for bit to the definition of any size in specs/.
+// That an index lies below a size is a clause of each function that takes one: no type says it of the number of a const parameter.
 #![tactic(auto)]
 
 ghost use Rattle.std.specs.Prelude.{◌≡◌, ◌<◌};

@@ -1,4 +1,5 @@
 // The Kalman filter of a track. Each call gives the filter as it is after the call, or says why it is refused; its caller still has the one before.
+// A measurement comes as its value and its covariance, two arguments as in the Rust, since nothing keeps the two together.
 #![tactic(auto)]
 
 ghost use Rattle.std.specs.Prelude.{◌≡◌};
@@ -35,10 +36,7 @@ pub struct Expected {
 fn finish(state: [f64; 6], p: [[f64; 6]; 6]) -> Result<KalmanFilter, Refusal>
     ensures { reply_of_filter result ≡ stored (finished 6 (estimate state p)) }
 {
-    if !finite::is_finite_vector(state) {
-        return Err(Refusal::NonFiniteResult);
-    }
-    if !finite::is_finite_matrix(p) {
+    if !finite::is_finite_vector(state) || !finite::is_finite_matrix(p) {
         return Err(Refusal::NonFiniteResult);
     }
     let covariance = flat::flat6(p);

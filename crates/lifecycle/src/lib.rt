@@ -39,7 +39,7 @@ pub enum Verdict {
     Dropped,
 }
 
-// The same with the record as it is left. No Option: the life as it is left is told of one that is dropped too, so both fields always count.
+// A life as a time leaves it, and whether it goes on, which its state tells by one rule that is asked once (`verdict_of`). No Option: the life as it is left is told of one that is dropped too.
 #[derive(Clone, Copy)]
 pub struct AgedLifecycle {
     pub lifecycle: TrackLifecycle,
@@ -132,7 +132,7 @@ fn reference(l: TrackLifecycle) -> i64
     l.last_observation.unwrap_or(l.created_at)
 }
 
-// The state after every step that is due at this age.
+// The state after every step that is due at this age. Nested, and no guards: with guards the last arm isn't told which states it has, so that the proof doesn't close (tried).
 fn settle(state: TrackLifecycleState, age: i64, config: LifecycleConfig) -> TrackLifecycleState
     ensures { result ≡ settled config age state }
 {

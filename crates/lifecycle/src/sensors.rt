@@ -1,4 +1,4 @@
-// The sensors that contributed to a track: without repeats, the oldest first, at most a limit of them.
+// The sensors that contributed to a track: without repeats, the oldest first, at most a limit of them, in fixed room, as there is no heap.
 ghost use Rattle.std.specs.Prelude.{◌≡◌, List, [], ◌∷◌, ◌++◌, ℕ, ◌+◌, ◌-◌, ◌≤◌, ◌<◌, min, length, take, drop, set};
 ghost use Rattle.lists.specs.First.{any};
 ghost use Rattle.lists.specs.Lay.{lay};

@@ -2,6 +2,7 @@
 ghost use Rattle.std.specs.Prelude.{◌≡◌};
 ghost use Rattle.number.specs.Reply.{and_then};
 ghost use Rattle.cholesky.specs.Factor.{reply_of_factor};
+ghost use Rattle.math.specs.Refusing.{number_of};
 ghost use Rattle.cholesky.specs.Definite.{reply_of_found};
 ghost use Rattle.math.specs.Linalg.{entries_checked, entries_reply, validated, distance_reply, distance_by, squared_distance, reply_of_validity, reply_of_distance};
 
@@ -12,6 +13,20 @@ pub enum Refusal {
     NotSymmetric,
     NotPositiveDefinite,
     NonFiniteResult,
+}
+
+// 01's number of a refusal.
+impl From<Refusal> for u32 {
+    ghost from_gives = { λ why number. number ≡ number_of why };
+
+    fn from(why: Refusal) -> u32 {
+        match why {
+            Refusal::NonFiniteValue => 5,
+            Refusal::NotSymmetric => 6,
+            Refusal::NotPositiveDefinite => 7,
+            Refusal::NonFiniteResult => 9,
+        }
+    }
 }
 
 // A squared distance, where it is finite: +0 unless it is above 0.

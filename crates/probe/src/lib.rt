@@ -2,7 +2,6 @@
 #![tactic(auto)]
 
 ghost use Rattle.std.specs.Prelude.{◌≡◌};
-ghost use Rattle.math.specs.Refusing.{number_of};
 ghost use Rattle.math.specs.Linalg.{reply_of_distance};
 ghost use Rattle.filter.specs.Filter.{filter_with, expected_of, predicted, updated_by_position, updated_by_velocity, squared_mahalanobis, distance_from, reply_of_filter};
 ghost use Rattle.probe.specs.Lent.{StepCall, DistanceCall, ExpectedCall, expected_with};
@@ -10,15 +9,13 @@ ghost use Rattle.probe.specs.Lent.{StepCall, DistanceCall, ExpectedCall, expecte
 use filter::KalmanFilter;
 use math::linalg::Refusal;
 
-// 01's number of a refusal.
-fn number_of(why: Refusal) -> u32
-    ensures { result ≡ number_of why }
+// The filter that two lent arrays hold.
+fn filter_of(state: &[f64; 6], covariance: &[f64; 36]) -> KalmanFilter
+    ensures { result ≡ filter_with state.now covariance.now }
 {
-    match why {
-        Refusal::NonFiniteValue => 5,
-        Refusal::NotSymmetric => 6,
-        Refusal::NotPositiveDefinite => 7,
-        Refusal::NonFiniteResult => 9,
+    KalmanFilter {
+        state: *state,
+        covariance: *covariance,
     }
 }
 
@@ -38,7 +35,7 @@ fn lay(
             *covariance = p;
             0
         }
-        Err(why) => number_of(why),
+        Err(why) => u32::from(why),
     }
 }
 
@@ -51,7 +48,7 @@ fn lay_distance(distance: Result<f64, Refusal>, out: &mut f64) -> u32
             *out = d;
             0
         }
-        Err(why) => number_of(why),
+        Err(why) => u32::from(why),
     }
 }
 
@@ -65,12 +62,7 @@ pub extern "C" fn probe_predict(
 ) -> u32
     ensures { StepCall (predicted dt q (filter_with state.old covariance.old)) result state.old covariance.old state.new covariance.new }
 {
-    let x = *state;
-    let p = *covariance;
-    let f = KalmanFilter {
-        state: x,
-        covariance: p,
-    };
+    let f = filter_of(state, covariance);
     lay(filter::predict(f, dt, q), state, covariance)
 }
 
@@ -84,12 +76,7 @@ pub extern "C" fn probe_update_position(
 ) -> u32
     ensures { StepCall (updated_by_position z.now noise.now (filter_with state.old covariance.old)) result state.old covariance.old state.new covariance.new }
 {
-    let x = *state;
-    let p = *covariance;
-    let f = KalmanFilter {
-        state: x,
-        covariance: p,
-    };
+    let f = filter_of(state, covariance);
     lay(filter::update_position(f, *z, *noise), state, covariance)
 }
 
@@ -103,12 +90,7 @@ pub extern "C" fn probe_update_velocity(
 ) -> u32
     ensures { StepCall (updated_by_velocity v.now std (filter_with state.old covariance.old)) result state.old covariance.old state.new covariance.new }
 {
-    let x = *state;
-    let p = *covariance;
-    let f = KalmanFilter {
-        state: x,
-        covariance: p,
-    };
+    let f = filter_of(state, covariance);
     lay(filter::update_velocity(f, *v, std), state, covariance)
 }
 
@@ -123,12 +105,7 @@ pub extern "C" fn probe_squared_mahalanobis(
 ) -> u32
     ensures { DistanceCall (squared_mahalanobis z.now noise.now (filter_with state.now covariance.now)) result out.old out.new }
 {
-    let x = *state;
-    let p = *covariance;
-    let f = KalmanFilter {
-        state: x,
-        covariance: p,
-    };
+    let f = filter_of(state, covariance);
     lay_distance(filter::squared_mahalanobis(f, *z, *noise), out)
 }
 
@@ -142,12 +119,7 @@ pub extern "C" fn probe_expected_position(
 )
     ensures { ExpectedCall (expected_of (filter_with state.now covariance.now)) position.new spread.new }
 {
-    let x = *state;
-    let p = *covariance;
-    let f = KalmanFilter {
-        state: x,
-        covariance: p,
-    };
+    let f = filter_of(state, covariance);
     let m = filter::expected_position(f);
     let h = m.position;
     let s = m.covariance;
@@ -166,11 +138,9 @@ pub extern "C" fn probe_distance_from(
 ) -> u32
     ensures { DistanceCall (distance_from (expected_with position.now spread.now) z.now noise.now) result out.old out.new }
 {
-    let h = *position;
-    let s = *spread;
     let m = filter::Expected {
-        position: h,
-        covariance: s,
+        position: *position,
+        covariance: *spread,
     };
     lay_distance(filter::distance_from(m, *z, *noise), out)
 }

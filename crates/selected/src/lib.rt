@@ -7,6 +7,8 @@ ghost use Rattle.std.specs.Float.Ieee.{mul};
 ghost use Rattle.matrix.specs.Matrix.{item, entry, sum_of, row_times};
 ghost use Rattle.selected.specs.Units.{unit_at, unit_vector, is_above, is_plain};
 
+use std::array::from_fn;
+
 // 1 where j is k, else 0.
 pub fn unit(k: usize, j: usize) -> f64
     ensures { result ≡ unit_at k j }
@@ -18,12 +20,12 @@ pub fn unit(k: usize, j: usize) -> f64
 pub fn seen(x: [f64; 6], k: usize) -> f64
     ensures { result ≡ sum_of 6 (λ j. mul binary64 (item x j) (unit_at k j)) }
 {
-    x[0] * unit(k, 0)
-        + x[1] * unit(k, 1)
-        + x[2] * unit(k, 2)
-        + x[3] * unit(k, 3)
-        + x[4] * unit(k, 4)
-        + x[5] * unit(k, 5)
+    sums::sum::<6>(from_fn(
+        |j| -> f64
+            requires { j < 6 }
+            ensures { result ≡ mul binary64 (item x j) (unit_at k j) }
+        { x[j] * unit(k, j) },
+    ))
 }
 
 // Row k of the identity times column j of p.
@@ -31,30 +33,27 @@ fn seen_in_column(p: [[f64; 6]; 6], k: usize, j: usize) -> f64
     requires { j < 6 }
     ensures { result ≡ sum_of 6 (λ i. mul binary64 (unit_at k i) (entry p i j)) }
 {
-    unit(k, 0) * p[0][j]
-        + unit(k, 1) * p[1][j]
-        + unit(k, 2) * p[2][j]
-        + unit(k, 3) * p[3][j]
-        + unit(k, 4) * p[4][j]
-        + unit(k, 5) * p[5][j]
+    sums::sum::<6>(from_fn(
+        |i| -> f64
+            requires { (i < 6) × (j < 6) }
+            ensures { result ≡ mul binary64 (unit_at k i) (entry p i j) }
+        { unit(k, i) * p[i][j] },
+    ))
 }
 
 // Row k of the identity times p.
-#[tactic(auto, unfolding(matrix::specs::Matrix::row_times, crate::specs::Units::unit_vector))]
 pub fn row_seen(p: [[f64; 6]; 6], k: usize) -> [f64; 6]
     ensures { result ≡ row_times 6 6 (unit_vector 6 k) p }
 {
-    [
-        seen_in_column(p, k, 0),
-        seen_in_column(p, k, 1),
-        seen_in_column(p, k, 2),
-        seen_in_column(p, k, 3),
-        seen_in_column(p, k, 4),
-        seen_in_column(p, k, 5),
-    ]
+    from_fn(
+        |j| -> f64
+            requires { j < 6 }
+            ensures { result ≡ sum_of 6 (λ i. mul binary64 (unit_at k i) (entry p i j)) }
+        { seen_in_column(p, k, j) },
+    )
 }
 
-// Whether the diagonal is above 0.
+// Whether the diagonal is above 0. The six tests are joined by `&`, which takes no branch, where `all` would take six.
 pub fn is_above(p: [[f64; 6]; 6]) -> bool
     ensures { result ≡ is_above 6 p }
 {

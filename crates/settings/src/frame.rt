@@ -1,4 +1,4 @@
-// The name of a coordinate frame: bytes with a length.
+// The name of a coordinate frame: bytes with a length, in fixed room, as there is no heap.
 ghost use Rattle.std.specs.Prelude.{◌≡◌, ◌≤◌, take};
 ghost use Rattle.lists.specs.Same.{same};
 ghost use Rattle.settings.specs.Frame.{too_long, same_frame};

@@ -1,4 +1,5 @@
 // What is solved with a Cholesky factor, and the gain. Each answer is equal bit for bit to the definition of any size in specs/.
+// That an index lies below a size is a clause of each function that takes one: no type says it of the number of a const parameter. A sum over two arrays goes by their common index: after `zip` an invariant has no number of the turn (tried).
 #![tactic(auto)]
 
 ghost use Rattle.std.specs.Prelude.{◌≡◌, ◌<◌, ◌+◌, ◌-◌};

@@ -1,4 +1,5 @@
 // The square root, rounded once to the nearest binary64. A guess in floating point is tested, and put right, in whole numbers, so nothing rests on how good it is.
+// The ranges that the functions ask are of other numbers each time, the bits of a double, its digits, half of a square: a type for each would be made and taken apart at every step.
 #![tactic(auto)]
 
 ghost use Rattle.std.specs.Prelude.{◌≡◌, ◌+◌, ◌-◌, ◌*◌, ◌%◌, ◌^◌, ◌<◌, ◌≤◌, true};

@@ -70,7 +70,7 @@ fn is_within_tolerance<const N: usize>(a: [[f64; N]; N]) -> bool
     largest(skew(a)) <= SYMMETRY_ABS_TOL + SYMMETRY_REL_TOL * largest(a)
 }
 
-// Whether each entry of row i before the diagonal equals the one across it.
+// Whether each entry of row i before the diagonal equals the one across it. The tests here and below are joined by `&`, which takes no branch, where `all` would take one for each.
 fn is_mirrored_row<const N: usize>(a: [[f64; N]; N], i: usize) -> bool
     requires { i < N }
     ensures { result ≡ all_of i (λ j. eq (entry a.entry j i) (entry a.entry i j)) }
