@@ -1,4 +1,5 @@
 // The joined groups of rows and columns: each row is joined with the columns that it may pair with, and a group is named by the last of its rows.
+// `continue` at the end of an arm: so each arm has a goal of its own, which one for both would have to take apart.
 // Seen by this crate alone: what its functions ask is met by `named_groups`, and that by `pair_columns`, which refuses tables of other sizes first.
 ghost use Rattle.std.specs.Prelude.{◌≡◌, ◌+◌, ◌*◌, ◌≤◌, ◌<◌, length, replicate};
 ghost use Rattle.std.specs.Float.Ieee.Scale.{finite};

@@ -1,4 +1,5 @@
 // A group's own table: its rows and columns, gathered from the cost table that is lent.
+// `continue` at the end of an arm: so each arm has a goal of its own, which one for both would have to take apart.
 ghost use Rattle.std.specs.Prelude.{◌≡◌, ◌+◌, ◌*◌, ◌≤◌, ◌<◌, length, get_or};
 ghost use Rattle.std.specs.Float.{nan};
 ghost use Rattle.kuhn_munkres.specs.Assignment.{largest, sentinel_of};
