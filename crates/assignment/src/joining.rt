@@ -21,8 +21,8 @@ pub fn join_row(
     requires { (at + columns ≤ length costs.now) × (base + columns ≤ 128) × (i < 128) × Roomy columns parent.old rank.old }
     ensures { RowJoined costs.now at base i columns parent.old rank.old parent.new rank.new }
 {
-    for j in 0..columns {
-        if number::float::is_finite(costs[at + j]) {
+    for (j, cost) in costs[at..at + columns].iter().enumerate() {
+        if number::float::is_finite(*cost) {
             crate::union_find::union(parent, rank, i, base + j);
             continue;
         }

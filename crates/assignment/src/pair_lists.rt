@@ -49,8 +49,8 @@ pub fn list_columns(takers: &[usize; 64], columns: usize, free: &mut [usize; 64]
     ensures { ColumnsListed (takers_of columns takers.now) free.new result }
 {
     let mut n = 0usize;
-    for j in 0..columns {
-        if takers[j] < 64 {
+    for (j, taker) in takers[..columns].iter().enumerate() {
+        if *taker < 64 {
             continue;
         }
         free[n] = j;
