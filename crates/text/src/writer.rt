@@ -1,4 +1,4 @@
-// A text that grows: bytes, and how many of them are put.
+// A text that grows: bytes, and how many of them are put. Fixed room and a count, as there is no heap.
 // Seen by this crate alone: the writers of an answer have room for what they put, and the methods ask for it.
 ghost use Rattle.std.specs.Prelude.{◌≡◌, ◌+◌, ◌%◌, ◌≤◌, length, take};
 ghost use Rattle.assignment.specs.Listing.{pair_of};
