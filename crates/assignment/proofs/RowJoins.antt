@@ -2,17 +2,31 @@
 use mathlib.Core.Path.{◌≡◌, refl, sym, ap, ◌∙◌}
 use mathlib.Core.Bool.{Bool, true, false, cond, ◌&&◌, ◌||◌}
 use mathlib.Core.List.{List}
-use Prim.Native.Nat.{ℕ, ◌+◌, ◌<◌}
+use Prim.Native.Nat.{ℕ, ◌+◌, ◌-◌, ◌≤◌, ◌<◌}
 use native.Mathlib.Decide.{ℕ_discrete}
 use native.Mathlib.Numerals.{add-one}
 use native.Mathlib.Omega.{arith}
 use borrow.Author.Tests.{eq-eqb, ne_eqb}
 use lib.Dec.{eqb}
-use lib.Ieee.{Float}
+use lib.Ieee.{Float, nan}
+use lib.ListN.{get_or, length, take, drop, length-drop}
+use lib.Seq.{get_or-take, length-take-le}
+use Rattle.std.proofs.lemmas.List.{get_or-drop}
 use Rattle.assignment.specs.Forest.{Forest, Ranked, United, join_of}
 use Rattle.assignment.specs.Labelling.{allowed_at, touched, row_label, Roomy, RowJoined}
 use Rattle.assignment.proofs.Forests.{labels_same, join_on, join_off}
 use Rattle.assignment.proofs.Unions.{more}
+
+-- the row's costs, cut out of the table
+pub part_long : (costs : List Float) (at n : ℕ) → at + n ≤ length costs → length (take ((at + n) - at) (drop at costs)) ≡ n
+part_long costs at n h =
+    let e : (at + n) - at ≡ n = omega arith in
+    rw e (length-take-le n (drop at costs) (rw (length-drop at costs) (omega arith)))
+
+pub part_at : (costs : List Float) (at n j : ℕ) → j < n → get_or (take ((at + n) - at) (drop at costs)) j nan ≡ get_or costs (at + j) nan
+part_at costs at n j h =
+    let e : (at + n) - at ≡ n = omega arith in
+    rw e (get_or-take n (drop at costs) j nan h ∙ get_or-drop at costs j nan)
 
 module _ (allowed : ℕ → Bool) (label : ℕ → ℕ) (base i j : ℕ) (own : label i ≡ i) where
   abbrev T : ℕ → Bool

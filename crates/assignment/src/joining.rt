@@ -1,4 +1,5 @@
 // The joined groups of rows and columns: each row is joined with the columns that it may pair with, and a group is named by the last of its rows.
+// `continue` at the end of an arm: so each arm has a goal of its own, which one for both would have to take apart.
 // Seen by this crate alone: what its functions ask is met by `named_groups`, and that by `pair_columns`, which refuses tables of other sizes first.
 ghost use Rattle.std.specs.Prelude.{◌≡◌, ◌+◌, ◌*◌, ◌≤◌, ◌<◌, length, replicate};
 ghost use Rattle.std.specs.Float.Ieee.Scale.{finite};
@@ -7,6 +8,8 @@ ghost use Rattle.kuhn_munkres.specs.Assignment.{rows_of};
 ghost use Rattle.assignment.specs.Forest.{Ranked};
 ghost use Rattle.assignment.specs.Labelling.{Roomy, RowJoined, Alone, Grouped, Passed, ReadOff, NamedBy};
 
+use crate::union_find::Forest;
+
 // Joins row i with each of its columns that it may pair with. Its costs begin at `at`, the columns' items at `base`.
 pub fn join_row(
     costs: &[f64],
@@ -14,70 +17,50 @@ pub fn join_row(
     columns: usize,
     base: usize,
     i: usize,
-    parent: &mut [usize; 128],
-    rank: &mut [usize; 128],
+    forest: &mut Forest,
 )
-    requires { (at + columns ≤ length costs.now) × (base + columns ≤ 128) × (i < 128) × Roomy columns parent.old rank.old }
-    ensures { RowJoined costs.now at base i columns parent.old rank.old parent.new rank.new }
+    requires { (at + columns ≤ length costs.now) × (base + columns ≤ 128) × (i < 128) × Roomy columns forest.old.parent forest.old.rank }
+    ensures { RowJoined costs.now at base i columns forest.old.parent forest.old.rank forest.new.parent forest.new.rank }
 {
-    for j in 0..columns {
-        if number::float::is_finite(costs[at + j]) {
-            crate::union_find::union(parent, rank, i, base + j);
+    for (j, cost) in costs[at..at + columns].iter().enumerate() {
+        if number::float::is_finite(*cost) {
+            forest.union(i, base + j);
             continue;
         }
     }
 }
 
-// Each of 128 items its own parent.
-pub fn stand_alone() -> [usize; 128]
-    ensures { Alone result }
-{
-    std::array::from_fn(|x| x)
-}
-
 // Joins all rows with the columns that they may pair with. The parents stand alone, and all ranks are zero at first.
-pub fn join_all(
-    costs: &[f64],
-    rows: usize,
-    columns: usize,
-    parent: &mut [usize; 128],
-    rank: &mut [usize; 128],
-)
-    requires { (rows ≤ 64) × (columns ≤ 64) × (length costs.now ≡ rows * columns) × Alone parent.old × (rank.old ≡ replicate 128 0) }
-    ensures { Grouped costs.now rows columns parent.new rank.new }
+pub fn join_all(costs: &[f64], rows: usize, columns: usize, forest: &mut Forest)
+    requires { (rows ≤ 64) × (columns ≤ 64) × (length costs.now ≡ rows * columns) × Alone forest.old.parent × (forest.old.rank ≡ replicate 128 0) }
+    ensures { Grouped costs.now rows columns forest.new.parent forest.new.rank }
 {
     for i in 0..rows {
-        join_row(costs, i * columns, columns, rows, i, parent, rank);
+        join_row(costs, i * columns, columns, rows, i, forest);
     }
 }
 
 // The last row of each tree, at its root; 64 where it has none.
-pub fn last_rows(rows: usize, parent: &mut [usize; 128], rank: &[usize; 128]) -> [usize; 128]
-    requires { (rows ≤ 64) × Ranked parent.old rank.now }
-    ensures { Passed rows parent.old rank.now parent.new result }
+pub fn last_rows(rows: usize, forest: &mut Forest) -> [usize; 128]
+    requires { (rows ≤ 64) × Ranked forest.old.parent forest.old.rank }
+    ensures { Passed rows forest.old.parent forest.old.rank forest.new.parent result × (forest.new.rank ≡ forest.old.rank) }
 {
     let mut last = [64usize; 128];
     for i in 0..rows {
-        let root = crate::union_find::find(parent, rank, i);
+        let root = forest.find(i);
         last[root] = i;
     }
     last
 }
 
 // What stands at the roots of the items from base on, count of them.
-pub fn read_off(
-    base: usize,
-    count: usize,
-    parent: &mut [usize; 128],
-    rank: &[usize; 128],
-    last: &[usize; 128],
-) -> [usize; 64]
-    requires { (count ≤ 64) × (base ≤ 64) × Ranked parent.old rank.now }
-    ensures { ReadOff base count parent.old rank.now last.now parent.new result }
+pub fn read_off(base: usize, count: usize, forest: &mut Forest, last: &[usize; 128]) -> [usize; 64]
+    requires { (count ≤ 64) × (base ≤ 64) × Ranked forest.old.parent forest.old.rank }
+    ensures { ReadOff base count forest.old.parent forest.old.rank last.now forest.new.parent result × (forest.new.rank ≡ forest.old.rank) }
 {
     let mut names = [0usize; 64];
     for i in 0..count {
-        let root = crate::union_find::find(parent, rank, base + i);
+        let root = forest.find(base + i);
         names[i] = last[root];
     }
     names
@@ -95,12 +78,11 @@ pub fn named_groups(costs: &[f64], rows: usize, columns: usize) -> Names
     requires { (rows ≤ 64) × (columns ≤ 64) × (length costs.now ≡ rows * columns) }
     ensures { NamedBy (labels finite (rows_of rows columns costs.now) columns) rows columns result.of_rows result.of_columns }
 {
-    let mut parent = stand_alone();
-    let mut rank = [0usize; 128];
-    join_all(costs, rows, columns, &mut parent, &mut rank);
-    let last = last_rows(rows, &mut parent, &rank);
-    let of_rows = read_off(0, rows, &mut parent, &rank, &last);
-    let of_columns = read_off(rows, columns, &mut parent, &rank, &last);
+    let mut forest = Forest::new();
+    join_all(costs, rows, columns, &mut forest);
+    let last = last_rows(rows, &mut forest);
+    let of_rows = read_off(0, rows, &mut forest, &last);
+    let of_columns = read_off(rows, columns, &mut forest, &last);
     Names {
         of_rows,
         of_columns,

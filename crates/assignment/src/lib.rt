@@ -7,7 +7,7 @@ pub mod table;
 mod takers;
 mod union_find;
 
-ghost use Rattle.std.specs.Prelude.{◌≡◌, length, replicate, ◌≤◌};
+ghost use Rattle.std.specs.Prelude.{◌≡◌, replicate, ◌≤◌};
 ghost use Rattle.kuhn_munkres.specs.Assignment.{takers_reply, pairs_of, assignment_reply};
 ghost use Rattle.assignment.specs.Listing.{assignment_of, AssignmentAnswer};
 ghost use Rattle.assignment.specs.Taking.{takers_of};
@@ -35,7 +35,21 @@ impl From<RunError> for AssignmentError {
     }
 }
 
+// 01's number of a refusal.
+impl From<AssignmentError> for u32 {
+    ghost from_gives = { λ why number. number ≡ number_of why };
+
+    fn from(why: AssignmentError) -> u32 {
+        match why {
+            AssignmentError::TooMany => 11,
+            AssignmentError::NonFinite => 9,
+            AssignmentError::Failed => 10,
+        }
+    }
+}
+
 // Pairs by ascending row, and the rows and columns that are left, ascending: each list in front of its array, zeros after it.
+// Fixed room and counts, as there is no heap.
 #[derive(Clone, Copy)]
 pub struct Assignment {
     pub pair_rows: [usize; 64],
@@ -48,7 +62,7 @@ pub struct Assignment {
 }
 
 // The row that takes each column, into `takers`, which has 64 everywhere at first.
-// A leaf, which the pairing of a batch calls too: its callers lend takers that they have just made. What a refusal leaves in them is open but for their number; no caller reads it.
+// A leaf, which the pairing of a batch calls too: its callers lend takers that they have just made. What a refusal leaves in them is open; no caller reads it.
 pub fn pair_columns(
     costs: &[f64],
     rows: usize,
@@ -58,18 +72,12 @@ pub fn pair_columns(
     takers: &mut [usize; 64],
 ) -> Result<(), AssignmentError>
     requires { takers.old ≡ replicate 64 64 }
-    ensures { (reply_of result (takers_of columns takers.new) ≡ takers_reply costs.now rows columns row_cost column_cost) × (length takers.new ≡ 64) }
+    ensures { reply_of result (takers_of columns takers.new) ≡ takers_reply costs.now rows columns row_cost column_cost }
 {
-    if rows > 64 {
+    if rows > 64 || columns > 64 {
         return Err(AssignmentError::TooMany);
     }
-    if columns > 64 {
-        return Err(AssignmentError::TooMany);
-    }
-    if !number::float::is_finite(row_cost) {
-        return Err(AssignmentError::NonFinite);
-    }
-    if !number::float::is_finite(column_cost) {
+    if !number::float::is_finite(row_cost) || !number::float::is_finite(column_cost) {
         return Err(AssignmentError::NonFinite);
     }
     if costs.len() != rows * columns {

@@ -1,4 +1,5 @@
 // Pairs and unmatched lists, ascending, from the row that takes each column; 64 for none.
+// `continue` at the end of an arm: so each arm has a goal of its own, which one for both would have to take apart.
 // Seen by this crate alone: `linear_assignment` calls it with counts that passed its checks and arrays that it has just made.
 ghost use Rattle.std.specs.Prelude.{◌≡◌, ◌==◌, ◌≤◌, position, replicate};
 ghost use Rattle.assignment.specs.Listing.{RowsListed, ColumnsListed};
@@ -36,7 +37,6 @@ pub fn list_rows(
             None => {
                 free[left] = i;
                 left += 1;
-                continue;
             }
         }
     }
@@ -49,8 +49,8 @@ pub fn list_columns(takers: &[usize; 64], columns: usize, free: &mut [usize; 64]
     ensures { ColumnsListed (takers_of columns takers.now) free.new result }
 {
     let mut n = 0usize;
-    for j in 0..columns {
-        if takers[j] < 64 {
+    for (j, taker) in takers[..columns].iter().enumerate() {
+        if *taker < 64 {
             continue;
         }
         free[n] = j;

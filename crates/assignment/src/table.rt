@@ -1,4 +1,5 @@
 // A group's own table: its rows and columns, gathered from the cost table that is lent.
+// `continue` at the end of an arm: so each arm has a goal of its own, which one for both would have to take apart.
 ghost use Rattle.std.specs.Prelude.{◌≡◌, ◌+◌, ◌*◌, ◌≤◌, ◌<◌, length, get_or};
 ghost use Rattle.std.specs.Float.{nan};
 ghost use Rattle.kuhn_munkres.specs.Assignment.{largest, sentinel_of};
@@ -47,8 +48,8 @@ pub fn gather_row(
     ensures { Laid (length own.old) own.old own.new from result (picked (bears names.now g) (λ j. get_or costs.now (at + j) nan) columns) }
 {
     let mut k = from;
-    for j in 0..columns {
-        if names[j] == g {
+    for (j, name) in names[..columns].iter().enumerate() {
+        if *name == g {
             own[k] = costs[at + j];
             k += 1;
             continue;
@@ -73,8 +74,8 @@ pub fn gather_in(
 {
     let mut k = 0usize;
     let mut r = 0usize;
-    for i in 0..rows {
-        if row_names[i] == g {
+    for (i, name) in row_names[..rows].iter().enumerate() {
+        if *name == g {
             k = gather_row(costs, i * columns, columns, column_names, g, own, k);
             members[r] = i;
             r += 1;

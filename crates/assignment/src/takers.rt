@@ -1,6 +1,7 @@
 // The row that takes each column, group after group.
+// `continue` at the end of an arm: so each arm has a goal of its own, which one for both would have to take apart.
 // Seen by this crate alone: `pair_columns` refuses tables of other sizes before it comes here.
-// The table, its counts and the names stay parameters of their own, as in crate hungarian: `Call` is what is known of them together.
+// The table and its counts stay parameters of their own, as in crate hungarian: `Call` is what is known of them together.
 ghost use Rattle.std.specs.Prelude.{◌≡◌, ◌+◌, ◌*◌, ◌≤◌, ◌<◌, T, length, take, replicate};
 ghost use Rattle.std.specs.Float.{binary64};
 ghost use Rattle.std.specs.Float.Ieee.{fits};
@@ -13,6 +14,7 @@ ghost use Rattle.hungarian.specs.Structs.{square_from};
 ghost use Rattle.hungarian.specs.Ends.{end_reply, reply_of_run};
 ghost use Rattle.assignment.specs.Taking.{taker_number, takers_of, Taken, Call, Room, GroupTaken, AllTaken};
 
+use crate::joining::Names;
 use hungarian::RunError;
 
 // The row of the whole table for the row t of a group's square, whose own rows are `members`; rows of a square count from 1. 64 for a dummy.
@@ -22,10 +24,7 @@ fn taker(t: usize, members: &[usize]) -> usize
     if t == 0 {
         return 64;
     }
-    match members.get(t - 1) {
-        Some(i) => *i,
-        None => 64,
-    }
+    members.get(t - 1).copied().unwrap_or(64)
 }
 
 // Gives each column of group g the row that p has for it.
@@ -100,8 +99,7 @@ fn solve_group(
     costs: &[f64],
     rows: usize,
     columns: usize,
-    row_names: &[usize; 64],
-    column_names: &[usize; 64],
+    names: &Names,
     g: usize,
     prices: Prices,
     own: &mut [f64],
@@ -109,13 +107,13 @@ fn solve_group(
     p: &mut [usize; 129],
     takers: &mut [usize; 64],
 ) -> Result<(), RunError>
-    requires { Call costs.now rows columns row_names.now column_names.now × (g < rows) × Room rows columns own.old }
+    requires { Call costs.now rows columns names.now.of_rows names.now.of_columns × (g < rows) × Room rows columns own.old }
     ensures { (length own.new ≡ length own.old) × GroupTaken costs.now rows columns prices.far prices.row prices.column g result takers.old takers.new }
 {
-    if row_names[g] != g {
+    if names.of_rows[g] != g {
         return Ok(());
     }
-    let c = crate::table::count_named(&column_names[..columns], g);
+    let c = crate::table::count_named(&names.of_columns[..columns], g);
     if c == 0 {
         return Ok(());
     }
@@ -123,8 +121,8 @@ fn solve_group(
         costs,
         rows,
         columns,
-        row_names,
-        column_names,
+        &names.of_rows,
+        &names.of_columns,
         g,
         own,
         members,
@@ -137,7 +135,7 @@ fn solve_group(
         col: prices.column,
     };
     solve_front(own, shape, p)?;
-    take_columns(&column_names[..columns], g, p, &members[..r], takers);
+    take_columns(&names.of_columns[..columns], g, p, &members[..r], takers);
     Ok(())
 }
 
@@ -146,13 +144,12 @@ fn solve_groups_in(
     costs: &[f64],
     rows: usize,
     columns: usize,
-    row_names: &[usize; 64],
-    column_names: &[usize; 64],
+    names: &Names,
     prices: Prices,
     own: &mut [f64],
     takers: &mut [usize; 64],
 ) -> Result<(), RunError>
-    requires { Call costs.now rows columns row_names.now column_names.now × Room rows columns own.old }
+    requires { Call costs.now rows columns names.now.of_rows names.now.of_columns × Room rows columns own.old }
     ensures { AllTaken costs.now rows columns prices.far prices.row prices.column result takers.old takers.new }
 {
     let mut members = [0usize; 64];
@@ -162,8 +159,7 @@ fn solve_groups_in(
             costs,
             rows,
             columns,
-            row_names,
-            column_names,
+            names,
             g,
             prices,
             own,
@@ -180,38 +176,19 @@ fn solve_groups(
     costs: &[f64],
     rows: usize,
     columns: usize,
-    row_names: &[usize; 64],
-    column_names: &[usize; 64],
+    names: &Names,
     prices: Prices,
     takers: &mut [usize; 64],
 ) -> Result<(), RunError>
-    requires { Call costs.now rows columns row_names.now column_names.now }
+    requires { Call costs.now rows columns names.now.of_rows names.now.of_columns }
     ensures { AllTaken costs.now rows columns prices.far prices.row prices.column result takers.old takers.new }
 {
     if costs.len() <= 256 {
         let mut own = [0.0f64; 256];
-        return solve_groups_in(
-            costs,
-            rows,
-            columns,
-            row_names,
-            column_names,
-            prices,
-            &mut own,
-            takers,
-        );
+        return solve_groups_in(costs, rows, columns, names, prices, &mut own, takers);
     }
     let mut own = [0.0f64; 4096];
-    solve_groups_in(
-        costs,
-        rows,
-        columns,
-        row_names,
-        column_names,
-        prices,
-        &mut own,
-        takers,
-    )
+    solve_groups_in(costs, rows, columns, names, prices, &mut own, takers)
 }
 
 // The row that takes each column of a table, into `takers`, which has 64 everywhere at first.
@@ -224,24 +201,14 @@ pub fn pair_table(
     takers: &mut [usize; 64],
 ) -> Result<(), RunError>
     requires { (rows ≤ 64) × (columns ≤ 64) × (length costs.now ≡ rows * columns) × (takers.old ≡ replicate 64 64) }
-    ensures { (reply_of_run result (takers_of columns takers.new) ≡ pairing row_cost column_cost (rows_of rows columns costs.now) columns) × (length takers.new ≡ 64) }
+    ensures { reply_of_run result (takers_of columns takers.new) ≡ pairing row_cost column_cost (rows_of rows columns costs.now) columns }
 {
     let names = crate::joining::named_groups(costs, rows, columns);
-    let row_names = names.of_rows;
-    let column_names = names.of_columns;
     let largest = crate::table::largest_finite(costs, number::float::larger(row_cost, column_cost));
     let prices = Prices {
         far: crate::table::sentinel(largest),
         row: row_cost,
         column: column_cost,
     };
-    solve_groups(
-        costs,
-        rows,
-        columns,
-        &row_names,
-        &column_names,
-        prices,
-        takers,
-    )
+    solve_groups(costs, rows, columns, &names, prices, takers)
 }

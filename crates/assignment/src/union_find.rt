@@ -1,40 +1,60 @@
 // Disjoint sets of up to 128 items, by parents and ranks: path halving, union by rank.
 // Seen by this crate alone: `joining` begins with every item alone, and keeps the ranks rising.
-ghost use Rattle.std.specs.Prelude.{◌≡◌, ◌<◌};
+// That they rise is asked by each method, and is no fact of the type: a union may raise the highest rank, so that the room above it has to be counted by the caller.
+ghost use Rattle.std.specs.Prelude.{◌≡◌, ◌<◌, replicate};
 ghost use Rattle.assignment.specs.Forest.{Found, Ranked, United};
+ghost use Rattle.assignment.specs.Labelling.{Alone};
 
-// The root of x's tree; each second place on the way up is pointed further up. The ranks, which rise on it, say that it ends.
-pub fn find(parent: &mut [usize; 128], rank: &[usize; 128], x: usize) -> usize
-    requires { (x < 128) × Ranked parent.old rank.now }
-    ensures { Found parent.old rank.now parent.new x result }
-{
-    let mut y = x;
-    // The way up a tree: no index is counted.
-    while parent[y] != y {
-        let p = parent[y];
-        let g = parent[p];
-        parent[y] = g;
-        y = g;
-    }
-    y
+#[derive(Clone, Copy)]
+pub struct Forest {
+    pub parent: [usize; 128],
+    pub rank: [usize; 128],
 }
 
-// Joins the sets of a and b: the root of lower rank goes below the other, and of two equal ranks the one that stays rises.
-pub fn union(parent: &mut [usize; 128], rank: &mut [usize; 128], a: usize, b: usize)
-    requires { (a < 128) × (b < 128) × Ranked parent.old rank.old }
-    ensures { United parent.old rank.old parent.new rank.new a b }
-{
-    let ra = find(parent, rank, a);
-    let rb = find(parent, rank, b);
-    if ra == rb {
-        return;
+impl Forest {
+    // Each of 128 items its own parent.
+    pub fn new() -> Forest
+        ensures { Alone result.parent × (result.rank ≡ replicate 128 0) }
+    {
+        Forest {
+            parent: std::array::from_fn(|x| x),
+            rank: [0; 128],
+        }
     }
-    if rank[ra] < rank[rb] {
-        parent[ra] = rb;
-        return;
+
+    // The root of x's tree; each second place on the way up is pointed further up. The ranks, which rise on it, say that it ends.
+    pub fn find(&mut self, x: usize) -> usize
+        requires { (x < 128) × Ranked self.old.parent self.old.rank }
+        ensures { Found self.old.parent self.old.rank self.new.parent x result × (self.new.rank ≡ self.old.rank) }
+    {
+        let mut y = x;
+        // The way up a tree: no index is counted.
+        while self.parent[y] != y {
+            let p = self.parent[y];
+            let g = self.parent[p];
+            self.parent[y] = g;
+            y = g;
+        }
+        y
     }
-    parent[rb] = ra;
-    if rank[ra] == rank[rb] {
-        rank[ra] = rank[ra] + 1;
+
+    // Joins the sets of a and b: the root of lower rank goes below the other, and of two equal ranks the one that stays rises.
+    pub fn union(&mut self, a: usize, b: usize)
+        requires { (a < 128) × (b < 128) × Ranked self.old.parent self.old.rank }
+        ensures { United self.old.parent self.old.rank self.new.parent self.new.rank a b }
+    {
+        let ra = self.find(a);
+        let rb = self.find(b);
+        if ra == rb {
+            return;
+        }
+        if self.rank[ra] < self.rank[rb] {
+            self.parent[ra] = rb;
+            return;
+        }
+        self.parent[rb] = ra;
+        if self.rank[ra] == self.rank[rb] {
+            self.rank[ra] = self.rank[ra] + 1;
+        }
     }
 }

@@ -2,8 +2,6 @@
 ghost use Rattle.std.specs.Prelude.{◌≡◌, ◌≤◌, length};
 ghost use Rattle.c_solvers.specs.Mates.{hits, MatesWritten, AssignmentCall};
 
-use assignment::AssignmentError;
-
 // What stands for the column of a row that is left alone.
 const ALONE: u64 = 0xffff_ffff_ffff_ffff;
 
@@ -61,8 +59,6 @@ pub fn linear_assignment(
             );
             0
         }
-        Err(AssignmentError::TooMany) => 11,
-        Err(AssignmentError::NonFinite) => 9,
-        Err(AssignmentError::Failed) => 10,
+        Err(why) => u32::from(why),
     }
 }

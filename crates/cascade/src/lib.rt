@@ -1,4 +1,5 @@
 // The pairing in two stages: the recent rows with all columns, then the others with the columns that are left.
+// `continue` at the end of an arm: so each arm has a goal of its own, which one for both would have to take apart.
 #![tactic(auto)]
 
 ghost use Rattle.std.specs.Prelude.{◌≡◌, false, ◌*◌, ◌≤◌, length, get_or, take, replicate};
@@ -24,14 +25,14 @@ pub struct Table<'a> {
 fn row_name(takes_part: bool) -> usize
     ensures { result ≡ row_name takes_part }
 {
-    if takes_part { 0 } else { 1 }
+    usize::from(!takes_part)
 }
 
 // The name of a column: 0 for one that no row has taken yet, 1 for another.
 fn column_name(taker: usize) -> usize
     ensures { result ≡ column_name taker }
 {
-    if taker < 64 { 1 } else { 0 }
+    usize::from(taker < 64)
 }
 
 // The row of the whole table for the row a of the picked one, whose rows are `members`; 64 for none. No row but those of the table is ever asked for: 0 stands there
@@ -70,7 +71,7 @@ fn solve_front(
     picked: &mut [usize; 64],
 ) -> Result<(), Refusal>
     requires { (rows ≤ 64) × (columns ≤ 64) × (rows * columns ≤ length own.now) × (picked.old ≡ replicate 64 64) }
-    ensures { (and_then (reply_of result) (λ _. given (takers_of columns picked.new)) ≡ takers_reply (take (rows * columns) own.now) rows columns gate nought) × (length picked.new ≡ 64) }
+    ensures { and_then (reply_of result) (λ _. given (takers_of columns picked.new)) ≡ takers_reply (take (rows * columns) own.now) rows columns gate nought }
 {
     let end = rows * columns;
     assignment::pair_columns(&own[..end], rows, columns, gate, 0.0, picked)?;
@@ -126,7 +127,7 @@ pub fn pair_cascade(
 }
 
 // The row that takes each column of the whole table, in one stage, into `takers`, which has 64 everywhere at first.
-// A leaf, as above. What a refusal leaves in `takers` is open but for their number; no caller reads it.
+// A leaf, as above. What a refusal leaves in `takers` is open; no caller reads it.
 pub fn pair_all(table: Table, gate: f64, takers: &mut [usize; 64]) -> Result<(), Refusal>
     requires { (length table.costs.now ≡ table.rows * table.columns) × (takers.old ≡ replicate 64 64) }
     ensures { (and_then (reply_of result) (λ _. given (takers_of table.entry.columns takers.new)) ≡ assigned gate (rows_of table.entry.rows table.entry.columns table.entry.costs.now) table.entry.columns) × (length takers.new ≡ 64) }

@@ -8,33 +8,31 @@ use borrow.Author.Tests.{lt-leb, le-leb, eq-eqb, ne_eqb}
 use lib.Dec.{eqb, leb}
 use lib.ListN.{length}
 use lib.Ieee.{Float}
-use Rattle.std.specs.Prelude.{Result, Ok, Err, is_err}
+use Rattle.std.specs.Prelude.{Result, Ok, Err}
 use Rattle.number.specs.Reply.{Reply, refused, given, refuse_unless, left_in}
 use Rattle.kuhn_munkres.specs.Binary64.{float}
 use Rattle.kuhn_munkres.specs.Square.{entry}
 use Rattle.kuhn_munkres.specs.Steps.{Search, found, stopped, spent, rows}
 use Rattle.hungarian.specs.Structs.{square_from}
-use Rattle.hungarian.specs.Ends.{end_of, pick_end, end_reply, run_reply, reply_of_run, RunAnswer}
+use Rattle.hungarian.specs.Ends.{end_of, pick_end, end_reply, run_reply, number_of, reply_of_run, RunAnswer}
 use Rattle.hungarian.specs.declared.Shape.{Shape}
 use Rattle.hungarian.specs.declared.RunError.{RunError}
 use Rattle.hungarian.specs.declared.RunError.TheVariants.{TooMany, Failed}
 use Rattle.hungarian.specs.declared.SearchError.{SearchError}
 use Rattle.hungarian.specs.declared.SearchError.TheVariants.{NotFinite, Spent}
 
-pub end_given : (x : Search Float) (r : Result (Unit {0}) SearchError) (p : List ℕ) → is_err r ≡ false → pick_end r p ≡ end_of x → given p ≡ end_reply x
+end_given : (x : Search Float) (p : List ℕ) → pick_end (Ok tt) p ≡ end_of x → given p ≡ end_reply x
 unfolding end_reply
-end_given (found s) (Ok u) p z e = cc
-end_given stopped (Ok u) p z e = absurd (let w : ◌≡◌ {A = ℕ} 0 1 = cc in omega arith)
-end_given spent (Ok u) p z e = absurd (let w : ◌≡◌ {A = ℕ} 0 1 = cc in omega arith)
-end_given x (Err why) p z e = absurd (let w : ◌≡◌ {A = ℕ} 0 1 = cc in omega arith)
+end_given (found s) p e = cc
+end_given stopped p e = absurd (let w : ◌≡◌ {A = ℕ} 0 1 = cc in omega arith)
+end_given spent p e = absurd (let w : ◌≡◌ {A = ℕ} 0 1 = cc in omega arith)
 
-pub end_refused : (x : Search Float) (r : Result (Unit {0}) SearchError) (p : List ℕ) → is_err r ≡ true → pick_end r p ≡ end_of x → refused 10 ≡ end_reply x
+end_refused : (x : Search Float) (why : SearchError) (p : List ℕ) → pick_end (Err why) p ≡ end_of x → refused 10 ≡ end_reply x
 unfolding end_reply
-end_refused x (Ok u) p f e = absurd (let w : ◌≡◌ {A = ℕ} 0 1 = cc in omega arith)
-end_refused (found s) (Err NotFinite) p f e = absurd (let w : ◌≡◌ {A = ℕ} 0 1 = cc in omega arith)
-end_refused (found s) (Err Spent) p f e = absurd (let w : ◌≡◌ {A = ℕ} 0 1 = cc in omega arith)
-end_refused stopped (Err why) p f e = refl
-end_refused spent (Err why) p f e = refl
+end_refused (found s) NotFinite p e = absurd (let w : ◌≡◌ {A = ℕ} 0 1 = cc in omega arith)
+end_refused (found s) Spent p e = absurd (let w : ◌≡◌ {A = ℕ} 0 1 = cc in omega arith)
+end_refused stopped why p e = refl
+end_refused spent why p e = refl
 
 module _ (costs : List Float) (q : Shape) where
   abbrev X : Search Float
@@ -62,8 +60,8 @@ module _ (costs : List Float) (q : Shape) where
         pub checked : run_reply costs q ≡ end_reply X
         checked = by true true true (le-leb q.rows 64 hr) (le-leb q.cols 64 hc) (eq-eqb (length costs) (q.rows * q.cols) size)
 
-        pub run_failed : (p t : List ℕ) (r : Result (Unit {0}) SearchError) → is_err r ≡ true → pick_end r t ≡ end_of X → RunAnswer costs q (Err Failed) p p
-        run_failed p t r f e = declined 10 (Err Failed) p (λ t. refl) (end_refused X r t f e ∙ sym checked)
+        pub run_failed : (p t : List ℕ) (why : SearchError) (e : RunError) → number_of e ≡ 10 → pick_end (Err why) t ≡ end_of X → RunAnswer costs q (Err e) p p
+        run_failed p t why e n h = declined 10 (Err e) p (λ t. ap refused n) (end_refused X why t h ∙ sym checked)
 
-        pub run_given : (p t : List ℕ) (r : Result (Unit {0}) SearchError) → is_err r ≡ false → pick_end r t ≡ end_of X → RunAnswer costs q (Ok tt) p t
-        run_given p t r z e = let w : given t ≡ run_reply costs q = end_given X r t z e ∙ sym checked in record { is = w; left = ap (λ (x : Reply (List ℕ)). left_in x p) w }
+        pub run_given : (p t : List ℕ) → pick_end (Ok tt) t ≡ end_of X → RunAnswer costs q (Ok tt) p t
+        run_given p t e = let w : given t ≡ run_reply costs q = end_given X t e ∙ sym checked in record { is = w; left = ap (λ (x : Reply (List ℕ)). left_in x p) w }

@@ -15,7 +15,7 @@ ghost use Rattle.kuhn_munkres.specs.Square.{entry};
 ghost use Rattle.kuhn_munkres.specs.Steps.{search, back, rows};
 ghost use Rattle.hungarian.specs.Passes.{better, chosen, lowered, paid, two, pots, Evenly, Listed, Pays, QuietIf, FreeIf, relaxed};
 ghost use Rattle.hungarian.specs.Structs.{least_of, square_from};
-ghost use Rattle.hungarian.specs.Ends.{begun, met, met_of, end_of, pick_end, RunAnswer};
+ghost use Rattle.hungarian.specs.Ends.{begun, met, met_of, end_of, pick_end, number_of, RunAnswer};
 
 #[derive(Clone, Copy)]
 pub struct Shape {
@@ -121,7 +121,7 @@ fn lower(minv: &mut [f64], delta: f64)
     }
 }
 
-// Places lo .. hi - 1: those used pay delta.
+// Places lo .. hi - 1: those used pay delta. `continue` at the end of the arm: so it has a goal of its own, which one for both would have to take apart.
 fn pay_from(
     u: &mut [f64; 129],
     v: &mut [f64; 129],
@@ -241,7 +241,7 @@ fn look(
     choose(minv, n)
 }
 
-// Whether none of places k .. k + 7 is used.
+// Whether none of places k .. k + 7 is used: joined by `|`, which takes no branch, as in `quiet`.
 fn free8(used: &[bool; 129], k: usize) -> bool
     requires { k + 8 ≤ 129 }
     ensures { FreeIf result used.now k }
@@ -378,23 +378,26 @@ pub enum RunError {
     Failed,
 }
 
+impl From<SearchError> for RunError {
+    ghost from_gives = { λ x e. number_of e ≡ 10 };
+
+    fn from(_why: SearchError) -> RunError {
+        RunError::Failed
+    }
+}
+
 // The row of each column of the padded square, both counted from 1, into p; p is left as it was where the call is declined.
 pub fn solve(costs: &[f64], q: Shape, p: &mut [usize; 129]) -> Result<(), RunError>
     ensures { RunAnswer costs.now q result p.old p.new }
 {
-    if q.rows > 64 {
-        return Err(RunError::TooMany);
-    }
-    if q.cols > 64 {
+    if q.rows > 64 || q.cols > 64 {
         return Err(RunError::TooMany);
     }
     if costs.len() != q.rows * q.cols {
         return Err(RunError::Failed);
     }
     let mut taken = [0usize; 129];
-    if hungarian_square(costs, q, &mut taken).is_err() {
-        return Err(RunError::Failed);
-    }
+    hungarian_square(costs, q, &mut taken)?;
     *p = taken;
     Ok(())
 }

@@ -9,8 +9,6 @@ ghost use Rattle.request.specs.Request.{request_of};
 ghost use Rattle.text.specs.Text.{Wrote, text_of, roomed};
 ghost use Rattle.line.specs.Line.{formed, decided, answer_of};
 
-use assignment::AssignmentError;
-
 // A line has no more bytes, with its newline.
 const LONGEST: usize = 16384;
 
@@ -20,9 +18,8 @@ const DEEPEST: usize = 4;
 // No more rows, and no more columns, are paired.
 const MOST: u32 = 64;
 
-// Why a line is refused. The number of each is what is written.
+// Why a line is refused before it comes to the assignment. The number of each is what is written.
 enum Refusal {
-    NonFinite = 9,
     NoPairing = 10,
     TooMany = 11,
     NoRequest = 13,
@@ -42,7 +39,6 @@ fn is_formed(input: &[u8]) -> bool
 }
 
 // Pairs the rows with the columns, and writes who is paired and who is left.
-// The assignment's refusals get the line's numbers here and nowhere else, so that a conversion for them would be read at this place alone.
 fn pair(costs: &[f64], rows: usize, columns: usize, cost: f64, out: &mut [u8]) -> usize
     requires { (rows ≤ 64) × (columns ≤ 64) × (length costs.now ≡ 4096) }
     ensures { Wrote (roomed (length out.old) (text_of (assignment_reply (take (rows * columns) costs.now) rows columns cost (of_bits binary64 0)))) out.old result out.new }
@@ -50,9 +46,7 @@ fn pair(costs: &[f64], rows: usize, columns: usize, cost: f64, out: &mut [u8]) -
     let n = rows * columns;
     match assignment::linear_assignment(&costs[..n], rows, columns, cost, 0.0) {
         Ok(found) => text::write_answer(out, found),
-        Err(AssignmentError::TooMany) => text::write_refusal(out, Refusal::TooMany as usize),
-        Err(AssignmentError::NonFinite) => text::write_refusal(out, Refusal::NonFinite as usize),
-        Err(AssignmentError::Failed) => text::write_refusal(out, Refusal::NoPairing as usize),
+        Err(why) => text::write_refusal(out, u32::from(why) as usize),
     }
 }
 

@@ -14,7 +14,7 @@ use Rattle.kuhn_munkres.specs.Assignment.{Pair, Pairs}
 use Rattle.lists.specs.Lay.{lay}
 use Rattle.lists.specs.Masks.{zipped}
 use Rattle.assignment.specs.Listing.{pair_of}
-use Rattle.text.specs.declared.writer.Text.{Text}
+use Rattle.text.specs.declared.bytes.Text.{Text}
 use Rattle.text.specs.Text.{Wrote, Puts, Written, written, digits_of, item_text, list_text, pair_text, pairs_text, unmatched_text, refused_text, answer_text, roomed}
 
 -- ---- bytes put behind bytes

@@ -5,7 +5,7 @@ use Rattle.forms.specs.Bytes.{bytes_of}
 use Rattle.number.specs.Reply.{Reply, refused, given}
 use Rattle.lists.specs.Lay.{lay}
 use Rattle.kuhn_munkres.specs.Assignment.{Pair, Pairs}
-use Rattle.text.specs.declared.writer.Text.{Text}
+use Rattle.text.specs.declared.bytes.Text.{Text}
 
 -- a number below 100, as every row, column and refusal is (laws: proofs/Digits here, proofs/Named in `line`)
 unfoldable pub digits_of : ℕ → List ℕ

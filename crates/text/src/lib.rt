@@ -1,6 +1,7 @@
 // What the program `assign` writes: an answer or a refusal, put together as a text, which is then copied into a lent buffer.
 #![tactic(auto)]
 
+mod bytes;
 mod writer;
 
 ghost use Rattle.std.specs.Prelude.{◌≡◌, ◌+◌, ◌≤◌, length, take};
@@ -9,7 +10,7 @@ ghost use Rattle.assignment.specs.Listing.{pair_of, pairs_in};
 ghost use Rattle.text.specs.Text.{Puts, Wrote, Written, list_text, pairs_text, unmatched_text, refused_text, answer_text, roomed};
 
 use assignment::Assignment;
-use writer::Text;
+use bytes::Text;
 
 // Puts a list's numbers.
 fn put_list(text: &mut Text, list: &[usize])

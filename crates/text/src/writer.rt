@@ -1,14 +1,10 @@
-// A text that grows: bytes, and how many of them are put.
+// How a text grows.
 // Seen by this crate alone: the writers of an answer have room for what they put, and the methods ask for it.
 ghost use Rattle.std.specs.Prelude.{◌≡◌, ◌+◌, ◌%◌, ◌≤◌, length, take};
 ghost use Rattle.assignment.specs.Listing.{pair_of};
 ghost use Rattle.text.specs.Text.{Puts, Wrote, written, digits_of, item_text, pair_text};
 
-#[derive(Drop)]
-pub struct Text {
-    pub bytes: [u8; 1024],
-    pub len: usize,
-}
+use crate::bytes::Text;
 
 impl Text {
     pub fn new() -> Text
@@ -63,7 +59,7 @@ impl Text {
 
     // Copies what is put into the front of `out`, and gives its length.
     pub fn write(&self, out: &mut [u8]) -> usize
-        requires { (self.now.len ≤ length self.now.bytes) × (self.now.len ≤ length out.old) }
+        requires { self.now.len ≤ length out.old }
         ensures { Wrote (written self.now) out.old result out.new }
     {
         out[..self.len].copy_from_slice(&self.bytes[..self.len]);

@@ -33,7 +33,7 @@ returns c =
     let f = stage_fits _ _ _ _ _ _ c.args.takers.now p.0 p.1 p.2 c.told-part c.told-takers parts names c.args.gate _ _ _ _ c.gather-r.ensures count in
     let tall : c.gather-r.result ≤ length c.gather-r.new.members = rw c.gather-r.ensures.members_long f.0 in
     let s = scattered_front _ _ _ c.gather-r.result _ _ _ wide tall c.scatter.ensures in
-    stage_done _ _ _ _ _ _ c.args.takers.now p.0 p.1 p.2 c.told-part c.told-takers parts names c.args.gate _ _ _ _ c.gather-r.ensures count _ _ c.solve_front.ensures.1 s c.solve_front.result c.in_ok-solve_front.was c.solve_front.ensures.0
+    stage_done _ _ _ _ _ _ c.args.takers.now p.0 p.1 p.2 c.told-part c.told-takers parts names c.args.gate _ _ _ _ c.gather-r.ensures count _ _ (search rules) s c.solve_front.result c.in_ok-solve_front.was c.solve_front.ensures
 
 pub returns-in_err-solve_front : goal.returns-in_err-solve_front
 returns-in_err-solve_front c =
@@ -45,7 +45,7 @@ returns-in_err-solve_front c =
     let wide : t.columns ≤ length c.map-columns.result = rw long p.1 in
     let count = c.count_named-c.ensures ∙ ticks_front t.columns c.map-columns.result 0 wide in
     let q = err_from_is_err_and c.from_residual.result c.from_residual.ensures.1 in
-    rw (q.1, q.2) (stage_refused _ _ _ _ _ _ c.args.takers.now p.0 p.1 p.2 c.told-part c.told-takers parts names c.args.gate _ _ _ _ c.gather-r.ensures count c.solve_front.result _ _ c.in_err-solve_front.was c.solve_front.ensures.0)
+    rw (q.1, q.2) (stage_refused _ _ _ _ _ _ c.args.takers.now p.0 p.1 p.2 c.told-part c.told-takers parts names c.args.gate _ _ _ _ c.gather-r.ensures count c.solve_front.result _ _ c.in_err-solve_front.was c.solve_front.ensures)
 
 -- the rows of the stage are no more than the members' array holds
 pub slice_bounds-members-end : goal.slice_bounds-members-end

@@ -25,5 +25,4 @@ returns c = c.in_ok-pair_columns.ensures
 pub returns-in_err-pair_columns : goal.returns-in_err-pair_columns
 returns-in_err-pair_columns c =
     let p = err_from_is_err_and c.from_residual.result c.from_residual.ensures.1 in
-    let e = c.in_err-pair_columns.ensures in
-    rw (p.1, p.2) (refused_with _ _ e.0, e.1)
+    rw (p.1, p.2) (refused_with _ _ c.in_err-pair_columns.ensures)

@@ -1,9 +1,9 @@
 -- Each outcome of the assignment is written as the definition has it.
 use native.Mathlib.Omega.{arith}
-use mathlib.Core.Path.{sym}
+use mathlib.Core.Path.{sym, ap, ◌∙◌}
 use lib.Seq.{length-take-le}
 use Rattle.text.proofs.Texts.{wrote_in}
-use Rattle.assignment.specs.declared.AssignmentError.TheVariants.{TooMany, NonFinite, Failed}
+use Rattle.text.specs.Text.{refused_text}
 use Rattle.line.proofs.Lines.{mul_few, reply_given, reply_refused}
 use Rattle.line.proofs.pair.Goals as goal
 
@@ -22,11 +22,5 @@ slice_bounds-linear_assignment-end c =
 pub returns-in-Ok : goal.returns-in-Ok
 returns-in-Ok c = wrote_in _ (reply_given _ _ c.in-Ok.ensures) c.write_answer.ensures
 
-pub returns-in-Err-TooMany : goal.returns-in-Err-TooMany
-returns-in-Err-TooMany c = wrote_in _ (reply_refused _ TooMany (rw c.in-Err-TooMany.field-0-is at c.in-Err-TooMany.ensures)) c.write_refusal.ensures
-
-pub returns-in-Err-NonFinite : goal.returns-in-Err-NonFinite
-returns-in-Err-NonFinite c = wrote_in _ (reply_refused _ NonFinite (rw c.in-Err-NonFinite.field-0-is at c.in-Err-NonFinite.ensures)) c.write_refusal-in-Err-NonFinite.ensures
-
-pub returns-in-Err-Failed : goal.returns-in-Err-Failed
-returns-in-Err-Failed c = wrote_in _ (reply_refused _ Failed (rw c.in-Err-Failed.field-0-is at c.in-Err-Failed.ensures)) c.write_refusal-in-Err-Failed.ensures
+pub returns-in-Err : goal.returns-in-Err
+returns-in-Err c = wrote_in _ (ap refused_text c.from.ensures ∙ reply_refused _ c.in-Err.why c.in-Err.ensures) c.write_refusal.ensures

@@ -1,16 +1,16 @@
 use native.Mathlib.Omega.{arith}
-use mathlib.Core.Path.{◌≡◌}
+use mathlib.Core.Path.{◌≡◌, refl, ◌∙◌}
 use Rattle.assignment.proofs.Names.{read_none, read_next}
 use Rattle.assignment.proofs.joining.read_off.Goals as goal
 
 pub loop-i-init : goal.loop-i-init
-loop-i-init c = (omega arith, read_none _ _ _ _ c.requires.2)
+loop-i-init c = (omega arith, read_none _ _ _ _ c.requires.2, refl)
 
 pub find-root-requires : goal.find-root-requires
-find-root-requires c = (omega (arith, c.requires.0, c.requires.1, c.loop-i-test.true), c.loop-i.invariant.1.ranked)
+find-root-requires c = (omega (arith, c.requires.0, c.requires.1, c.loop-i-test.true), rw c.loop-i.invariant.2 c.loop-i.invariant.1.ranked)
 
 pub loop-i-preserved : goal.loop-i-preserved
-loop-i-preserved c = (omega arith, read_next _ _ _ _ _ _ _ _ _ (omega (arith, c.requires.0, c.loop-i-test.true)) c.loop-i.invariant.1 c.find-root.ensures)
+loop-i-preserved c = (omega arith, read_next _ _ _ _ _ _ _ _ _ (omega (arith, c.requires.0, c.loop-i-test.true)) c.loop-i.invariant.1 (rw c.loop-i.invariant.2 at c.find-root.ensures.0), c.find-root.ensures.1 ∙ c.loop-i.invariant.2)
 
 pub returns : goal.returns
-returns c = let e : c.loop-i.i ≡ c.args.count = omega (arith, c.loop-i-test.false, c.loop-i.invariant.0) in rw e at c.loop-i.invariant.1
+returns c = let e : c.loop-i.i ≡ c.args.count = omega (arith, c.loop-i-test.false, c.loop-i.invariant.0) in (rw e at c.loop-i.invariant.1, c.loop-i.invariant.2)

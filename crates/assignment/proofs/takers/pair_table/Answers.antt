@@ -11,4 +11,4 @@ pub solve_groups-requires : goal.solve_groups-requires
 solve_groups-requires c = record { rows_few = c.requires.0; columns_few = c.requires.1; size = c.requires.2; named = c.named_groups-names.ensures }
 
 pub returns : goal.returns
-returns c = (paired _ _ _ _ _ _ _ _ _ c.requires.1 c.requires.2 c.requires.3 (c.sentinel.ensures ∙ ap sentinel_of (c.largest_finite-largest.ensures ∙ ap (λ (x : Float). largest x c.args.costs.now) c.larger.ensures)) c.solve_groups.ensures, c.solve_groups.ensures.long)
+returns c = paired _ _ _ _ _ _ _ _ _ c.requires.1 c.requires.2 c.requires.3 (c.sentinel.ensures ∙ ap sentinel_of (c.largest_finite-largest.ensures ∙ ap (λ (x : Float). largest x c.args.costs.now) c.larger.ensures)) c.solve_groups.ensures

@@ -1,7 +1,7 @@
 -- One digit or two.
 use Rattle.std.proofs.Common.{arith, ap, ◌∙◌, [], ◌∷◌, ℕ, ◌+◌, ◌/◌, ◌%◌}
 use Rattle.text.proofs.Texts.{puts_same, digits_one, digits_two}
-use Rattle.text.proofs.writer.Text.put_number.Goals as goal
+use Rattle.text.proofs.bytes.Text.put_number.Goals as goal
 
 pub returns-then-n-lt10 : goal.returns-then-n-lt10
 returns-then-n-lt10 c =

@@ -1,7 +1,7 @@
 -- The four parts are put one after the other, and chained by `puts_then`.
 use Rattle.std.proofs.Common.{arith}
 use Rattle.text.proofs.Texts.{puts_same, puts_then, pair_is}
-use Rattle.text.proofs.writer.Text.put_pair.Goals as goal
+use Rattle.text.proofs.bytes.Text.put_pair.Goals as goal
 
 pub returns : goal.returns
 returns c = (

@@ -1,5 +1,0 @@
-use Rattle.std.proofs.Common.{rules}
-use Rattle.assignment.proofs.joining.stand_alone.Goals as goal
-
-pub returns : goal.returns
-returns c = let r = c.from_fn.ensures.items in record { long = r.long; own = λ x h. (let at = r.at x 0 h in search rules) }
