@@ -70,7 +70,7 @@ fn price_row(
     let mut held: usize = 64;
     let mut factor = None;
     for j in 0..laid.count {
-        let seen = laid.class_at(j);
+        let seen = laid.labels[j];
         let k = laid.kin[j];
         if is_due(class, seen, held, k) {
             let noise = laid.noises[j];
