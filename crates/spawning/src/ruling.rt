@@ -47,9 +47,10 @@ fn is_confirmed(state: TrackLifecycleState) -> bool
 pub fn spot_of(x: Track3D) -> Spot
     ensures { result ≡ spot_of x }
 {
-    let f = x.filter;
-    let position = [f.state[0], f.state[1], f.state[2]];
-    Spot { position }
+    let s = x.filter.state;
+    Spot {
+        position: [s[0], s[1], s[2]],
+    }
 }
 
 // Whether a track is confirmed.
