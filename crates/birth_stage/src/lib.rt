@@ -95,7 +95,7 @@ pub fn walk(
     c: Candidates,
     places: &Places,
     observations: [Detection; MAX_OBSERVATIONS],
-    pairs: [Pair; MAX_OBSERVATIONS],
+    pairs: [Option<Pair>; MAX_OBSERVATIONS],
     m: usize,
     time: i64,
     sensor: u32,
@@ -109,8 +109,7 @@ pub fn walk(
     let mut s = t;
     let mut kept = c;
     for j in 0..n {
-        let p = pairs[j];
-        if p.taken {
+        if let Some(p) = pairs[j] {
             associations[j] = paired(j, p.track, p.cost);
             continue;
         }
@@ -139,7 +138,7 @@ pub fn walk(
 pub fn births(
     t: Cartesian3DTracker,
     observations: [Detection; MAX_OBSERVATIONS],
-    pairs: [Pair; MAX_OBSERVATIONS],
+    pairs: [Option<Pair>; MAX_OBSERVATIONS],
     m: usize,
     time: i64,
     sensor: u32,
