@@ -64,6 +64,7 @@ impl Sightings {
         ensures { (self.new.count ≡ self.old.count) × (sights_of self.new ≡ sights_of self.old) × Kin self.new.noises self.new.count self.new.kin }
     {
         let mut first: usize = 0;
+        // By index: a turn reads the row at `first` too, and writes to an array of the same record, which an iterator would hold.
         for j in 0..self.count {
             let a = self.noises[j];
             let b = self.noises[first];
