@@ -108,6 +108,7 @@ pub fn walk(
     let mut associations = [blank; MAX_OBSERVATIONS];
     let mut s = t;
     let mut kept = c;
+    // By index: each turn tells its place, so that a `zip` of the two arrays' first places would be counted as well, and is no plainer.
     for j in 0..n {
         if let Some(p) = pairs[j] {
             associations[j] = paired(j, p.track, p.cost);

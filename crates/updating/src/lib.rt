@@ -99,6 +99,7 @@ pub fn update_of(config: Cartesian3DTrackerConfig, sensor: u32, time: i64) -> Up
 }
 
 // The track after the detection that it took, where it took one.
+// No `Option<Detection>`: it would be built of a copy of the detection for each track. Of `Option<&Detection>` the contract has to say first what the reference points at, which is no plainer than the two values.
 pub fn update_where(x: Track3D, taken: bool, d: Detection, u: Update) -> Result<Track3D, Refusal>
     ensures { reply_by number_of result ≡ updated_or_not u x (cond taken (Some d) None) }
 {
