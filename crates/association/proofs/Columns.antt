@@ -54,7 +54,7 @@ zip_length f (x ∷ l) (y ∷ m) e = ap suc (zip_length f l m (omega arith))
 
 -- ---- what is told of the first places of arrays
 
-module _ (ids : List ℕ) (n m : ℕ) (costs : List Float) (takers : List ℕ) (pairs : List Pair) (h : n ≤ length ids) (g : m ≤ length takers) where
+module _ (ids : List ℕ) (n m : ℕ) (costs : List Float) (takers : List ℕ) (pairs : List (Option Pair)) (h : n ≤ length ids) (g : m ≤ length takers) where
   id_at : (i j : ℕ) → Dec (i < n) → pair_at (take n ids) n m costs i j ≡ pair_at ids n m costs i j
   id_at i j (yes k) = rw (lt-ltb i n k, get_or-take n ids i 0 k)
   id_at i j (no k) = let w : n ≤ i = omega arith in rw (le-ltb i n w)
@@ -155,16 +155,16 @@ module _ (rule : PairConfig) (all : List Row) (ids : List ℕ) (seen : List Dete
           by (no h) (yes g) = let w : n ≤ i = omega arith in rw (lt-ltb i 64 g, le-ltb i n w, slice_get_past rows i (rw rows_long w))
           by (no h) (no g) = let w : n ≤ i = omega arith in let v : 64 ≤ i = omega arith in rw (le-ltb i 64 v, le-ltb i n w)
 
-      abbrev told : List Pair
+      abbrev told : List (Option Pair)
       told = zipped (pair_of rule rows) t ds
 
       told_long : length told ≡ m
       told_long = zip_length (pair_of rule rows) t ds (takers_long ∙ sym seen_long) ∙ takers_long
 
-      pub pairs_all : (pairs : List Pair) → PairsTold ids n m costs takers m pairs → pairs ≡ lay told (replicate 64 alone)
+      pub pairs_all : (pairs : List (Option Pair)) → PairsTold ids n m costs takers m pairs → pairs ≡ lay told (replicate 64 alone)
       unfolding lay
       pairs_all pairs s =
-          let whole : length (replicate {A = Pair} 64 alone) ≡ 64 = length-replicate {A = Pair} 64 alone in
+          let whole : length (replicate {A = Option Pair} 64 alone) ≡ 64 = length-replicate {A = Option Pair} 64 alone in
           let q = told_long in
           let long : length (lay told (replicate 64 alone)) ≡ 64 = length_lay told (replicate 64 alone) (omega arith) ∙ whole in
           ext_get_or alone pairs (lay told (replicate 64 alone)) (s.long ∙ sym long) (λ j h. at j (rw s.long at h) (dec_lt j m))

@@ -22,12 +22,12 @@ use Rattle.association.specs.Told.{mate_of, alone, PairsTold, unmatched_of, List
 
 -- ---- the pairs of the columns
 
-pub told_none : (ids : List ℕ) (n m : ℕ) (costs : List Float) (takers : List ℕ) (pairs : List Pair) → pairs ≡ replicate 64 alone → PairsTold ids n m costs takers 0 pairs
+pub told_none : (ids : List ℕ) (n m : ℕ) (costs : List Float) (takers : List ℕ) (pairs : List (Option Pair)) → pairs ≡ replicate 64 alone → PairsTold ids n m costs takers 0 pairs
 told_none ids n m costs takers pairs e =
     record {
-      long = ap length e ∙ length-replicate {A = Pair} 64 alone;
+      long = ap length e ∙ length-replicate {A = Option Pair} 64 alone;
       at = λ j h. absurd (under j h);
-      rest = λ j l h. ap (λ (q : List Pair). get_or q j alone) e ∙ get_or-replicate 64 j alone alone h;
+      rest = λ j l h. ap (λ (q : List (Option Pair)). get_or q j alone) e ∙ get_or-replicate 64 j alone alone h;
     }
   where
     under : (j : ℕ) → j < 0 → ⊥

@@ -87,17 +87,17 @@ module _ (rule : PairConfig) (ts : List Track3D) where
   columns_back (o ∷ t) (d ∷ ds) = rw (column_back o d, columns_back t ds)
 
   module _ (seen : List Detection) (m : ℕ) (sd : length seen ≡ 64) (t : List (Option ℕ)) (long : length t ≡ length (take m seen)) where
-    pub columns_told : (pairs : List Pair) → pairs ≡ lay (map pair_in (zipped (column_for rule ts) t (take m seen))) (replicate 64 alone) → columns_from m pairs seen ≡ zipped (column_for rule ts) t (take m seen)
+    pub columns_told : (pairs : List (Option Pair)) → pairs ≡ lay (map pair_in (zipped (column_for rule ts) t (take m seen))) (replicate 64 alone) → columns_from m pairs seen ≡ zipped (column_for rule ts) t (take m seen)
     unfolding columns_from
     columns_told pairs e =
-        let told : List Pair = map pair_in (zipped (column_for rule ts) t (take m seen)) in
-        let whole : length (replicate {A = Pair} 64 alone) ≡ 64 = length-replicate {A = Pair} 64 alone in
+        let told : List (Option Pair) = map pair_in (zipped (column_for rule ts) t (take m seen)) in
+        let whole : length (replicate {A = Option Pair} 64 alone) ≡ 64 = length-replicate {A = Option Pair} 64 alone in
         let size : length told ≡ min m 64 =
         length-map (zipped (column_for rule ts) t (take m seen)) pair_in ∙ zip_length (column_for rule ts) t (take m seen) long ∙ long ∙ length-take m seen ∙ ap (min m) sd in
         let pairs-long : length pairs ≡ 64 = ap length e ∙ length_lay told (replicate 64 alone) (omega arith) ∙ whole in
         let front : take m pairs ≡ told =
         take_min m pairs ∙ ap (λ (k : ℕ). take k pairs) (ap (min m) pairs-long ∙ sym size) ∙ ap (take (length told)) e ∙ take_lay told (replicate 64 alone) in
-        ap (λ (l : List Pair). zipped column_from l (take m seen)) front ∙ columns_back t (take m seen)
+        ap (λ (l : List (Option Pair)). zipped column_from l (take m seen)) front ∙ columns_back t (take m seen)
 
 -- ---- the numbers of the tracks that took none
 

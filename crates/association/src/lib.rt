@@ -6,10 +6,9 @@ ghost use Rattle.association.specs.Told.{mate_of, alone, PairsTold, unmatched_of
 
 use types::{MAX_OBSERVATIONS, MAX_TRACKS};
 
-// Whether a track took the detection, and which, at what cost.
+// The track that took a detection, and at what cost.
 #[derive(Clone, Copy)]
 pub struct Pair {
-    pub taken: bool,
     pub track: u64,
     pub cost: f64,
 }
@@ -22,20 +21,19 @@ pub struct Unmatched {
 }
 
 // No detection is taken.
-pub fn no_pairs() -> [Pair; MAX_OBSERVATIONS]
+pub fn no_pairs() -> [Option<Pair>; MAX_OBSERVATIONS]
     ensures { result ≡ replicate 64 alone }
 {
-    let none = Pair {
-        taken: false,
-        track: 0,
-        cost: 0.0,
-    };
-    [none; MAX_OBSERVATIONS]
+    [None; MAX_OBSERVATIONS]
 }
 
-// The pair of each column, which has a taker; one that is not the place of a track is none.
+// The pair of each column, where its taker is the place of a track.
 // A leaf: the pairing stage lends no more tracks and columns than there are places.
-pub fn pairs_of(ids: &[u64], takers: &[usize], costs: &[f64; 4096]) -> [Pair; MAX_OBSERVATIONS]
+pub fn pairs_of(
+    ids: &[u64],
+    takers: &[usize],
+    costs: &[f64; 4096],
+) -> [Option<Pair>; MAX_OBSERVATIONS]
     requires { (length ids.now ≤ 64) × (length takers.now ≤ 64) }
     ensures { PairsTold ids.now (length ids.now) (length takers.now) costs.now takers.now (length takers.now) result }
 {
@@ -43,11 +41,11 @@ pub fn pairs_of(ids: &[u64], takers: &[usize], costs: &[f64; 4096]) -> [Pair; MA
     let mut pairs = no_pairs();
     for (j, &i) in takers.iter().enumerate() {
         if i < ids.len() {
-            pairs[j] = Pair {
-                taken: true,
+            let pair = Pair {
                 track: ids[i],
                 cost: costs[i * m + j],
             };
+            pairs[j] = Some(pair);
         }
     }
     pairs

@@ -1,7 +1,7 @@
 -- Candidates by themselves: whether one stays, and the nearest, one candidate after another. Assumes nothing.
 use Rattle.std.specs.Prelude.{None, Option, Some}
-use mathlib.Core.Path.{◌≡◌, ap}
-use mathlib.Core.Bool.{true, false}
+use mathlib.Core.Path.{◌≡◌, refl, sym, ap, ◌∙◌}
+use mathlib.Core.Bool.{Bool, true, false}
 use mathlib.Core.List.{List, [], ◌∷◌, ◌++◌}
 use Prim.Native.Nat.{ℕ, suc, ◌+◌, ◌<◌}
 use native.Mathlib.Omega.{arith}
@@ -13,6 +13,7 @@ use lib.ListN.{length, take, get_or}
 use lib.Seq.{take-suc, length-take-le}
 use Rattle.number.specs.Reply.{given, and_then, reply_or}
 use Rattle.number.specs.Time.{duration_reply, same_time}
+use Rattle.number.proofs.Zeros.{impossible}
 use Rattle.detections.specs.Births.{distance_of}
 use Rattle.detections.specs.declared.Detection.{Detection}
 use Rattle.types.specs.declared.tracker.BirthCandidate.{BirthCandidate}
@@ -60,6 +61,17 @@ module _ (radius : Float) (now : ℤ) (d : Detection) (i : ℕ) (x : BirthCandid
   unfolding considered within better
   first None e f q = rw (e, f)
   first (Some b) e f q = absurd (let z : ◌≡◌ {A = ℕ} 0 1 = cc in omega arith)
+
+  -- the two answers of `is_none_or`
+  pub chosen : (best : Option Near) (r : Bool) (o : Option Nearest) → same_time x.last_seen now ≡ false → lt far radius ≡ true → ((b : Near) → best ≡ Some b → r ≡ lt far b.distance) → r ≡ true → best ≡ near_of o
+      → Some (record { at = i; distance = far }) ≡ near_of (considered radius now d i x o)
+  chosen None r o e f h t q = first o e f q
+  chosen (Some b) r o e f h t q = closer b o e f (sym (h b refl) ∙ t) q
+
+  pub passed_over : (best : Option Near) (r : Bool) (o : Option Nearest) → same_time x.last_seen now ≡ false → lt far radius ≡ true → (best ≡ None → r ≡ true) → ((b : Near) → best ≡ Some b → r ≡ lt far b.distance)
+      → r ≡ false → best ≡ near_of o → best ≡ near_of (considered radius now d i x o)
+  passed_over None r o e f n h t q = impossible (sym t ∙ n refl)
+  passed_over (Some b) r o e f n h t q = farther b o e f (sym (h b refl) ∙ t) q
 
 -- ---- one after another
 

@@ -39,9 +39,8 @@ struct Near {
 fn judge(x: BirthCandidate, now: i64, timeout: i64) -> Result<bool, Refusal>
     ensures { reply_by number_of result ≡ stays timeout now x }
 {
-    let Some(age) = number::time::checked_duration_since(now, x.last_seen) else {
-        return Err(Refusal::TimestampOverflow);
-    };
+    let since = number::time::checked_duration_since(now, x.last_seen);
+    let age = since.ok_or(Refusal::TimestampOverflow)?;
     Ok(age <= timeout)
 }
 
@@ -60,15 +59,11 @@ fn nearer(
         return best;
     }
     let distance = detections::births::distance(x.position, d.position);
-    if distance < radius {
-        let Some(least) = best else {
-            return Some(Near { at, distance });
-        };
-        if distance < least.distance {
-            return Some(Near { at, distance });
-        }
+    if distance < radius && best.is_none_or(|b| distance < b.distance) {
+        Some(Near { at, distance })
+    } else {
+        best
     }
-    best
 }
 
 impl Candidates {

@@ -8,7 +8,6 @@ use native.Mathlib.Omega.{arith}
 use borrow.Author.Tests.{ltb-true, lt-ltb}
 use lib.Dec.{ltb}
 use lib.IntN.{ℤ}
-use lib.Ieee.{nan}
 use lib.ListN.{length, take, drop, get_or, set, length-append, length-drop}
 use lib.Seq.{length-take-le, get_or-take, take_all}
 use Rattle.number.specs.Reply.{Reply, refused, given, and_then, refuse_unless}
@@ -111,8 +110,8 @@ module _ (config : Cartesian3DTrackerConfig) (sensor : ℕ) (now : ℤ) where
 -- ---- columns
 
 -- what code reads past the end
-abbrev pub no_pair : Pair
-no_pair = record { taken = false; track = 0; cost = nan }
+abbrev pub no_pair : Option Pair
+no_pair = None
 
 abbrev pub no_detection : Detection
 no_detection = record { position = []; covariance = []; velocity = None; class_label = None; score = None }
@@ -133,7 +132,7 @@ zip_length f [] m e = refl
 zip_length f (x ∷ l) [] e = absurd (omega arith)
 zip_length f (x ∷ l) (y ∷ m) e = ap suc (zip_length f l m (omega arith))
 
-module _ (pairs : List Pair) (ds : List Detection) (m n : ℕ) (sp : length pairs ≡ 64) (sd : length ds ≡ 64) (taken : n ≡ min m 64) where
+module _ (pairs : List (Option Pair)) (ds : List Detection) (m n : ℕ) (sp : length pairs ≡ 64) (sd : length ds ≡ 64) (taken : n ≡ min m 64) where
   front : columns_from m pairs ds ≡ zipped column_from (take n pairs) (take n ds)
   unfolding columns_from
   front = rw (rows pairs 64 m n sp taken, rows ds 64 m n sd taken)
@@ -144,7 +143,7 @@ module _ (pairs : List Pair) (ds : List Detection) (m n : ℕ) (sp : length pair
       ∙ zip_length column_from (take n pairs) (take n ds) (rows_length pairs 64 m n sp taken ∙ sym (rows_length ds 64 m n sd taken))
       ∙ rows_length pairs 64 m n sp taken
 
-  pub column_at_lem : (j : ℕ) (p : Pair) (d : Detection) (k : Column) → j < n → get_or (columns_from m pairs ds) j k ≡ column_from (get_or pairs j p) (get_or ds j d)
+  pub column_at_lem : (j : ℕ) (p : Option Pair) (d : Detection) (k : Column) → j < n → get_or (columns_from m pairs ds) j k ≡ column_from (get_or pairs j p) (get_or ds j d)
   column_at_lem j p d k h =
       ap (λ (l : List Column). get_or l j k) front
       ∙ zip_at column_from (take n pairs) (take n ds) j p d k (omega (arith, rows_length pairs 64 m n sp taken)) (omega (arith, rows_length ds 64 m n sd taken))
@@ -296,16 +295,16 @@ module _ (config : Cartesian3DTrackerConfig) (sensor : ℕ) (now : ℤ) (places 
   pub walking_end : (s : Cartesian3DTracker) (c : Candidates) (l : List ObservationAssociation) (j : ℕ) (w : Walking s c l j) → length cols ≤ j → births_of config sensor now places cols start ≡ given w.so_far
   walking_end s c l j w h = ap (λ (k : List Column). births_of config sensor now places k start) (sym (take_all j cols h)) ∙ w.gives
 
-  pub walking_taken : (s : Cartesian3DTracker) (c : Candidates) (l : List ObservationAssociation) (j : ℕ) (p : Pair) (d : Detection) (k : Column) (x : ObservationAssociation) → Walking s c l j
-      → j < length cols → j < 64 → get_or cols j k ≡ column_from p d → p.taken ≡ true → x ≡ association_of j (updated (record { track = p.track; cost = p.cost })) → Walking s c (set l j x) (j + 1)
+  pub walking_taken : (s : Cartesian3DTracker) (c : Candidates) (l : List ObservationAssociation) (j : ℕ) (o : Option Pair) (p : Pair) (d : Detection) (k : Column) (x : ObservationAssociation) → Walking s c l j
+      → j < length cols → j < 64 → get_or cols j k ≡ column_from o d → o ≡ Some p → x ≡ association_of j (updated (record { track = p.track; cost = p.cost })) → Walking s c (set l j x) (j + 1)
   unfolding born_unless_taken
-  walking_taken s c l j p d k x w h g e q z =
+  walking_taken s c l j o p d k x w h g e q z =
       let m : Match = record { track = p.track; cost = p.cost } in
       let e2 : (get_or cols j k).pair ≡ Some m = ap (λ (v : Column). v.pair) e ∙ rw q in
       walking_more s s c c l j k (record { state = with_candidates (list_of c) (state_of s); fate = updated m }) x w h g (rw e2) refl w.arrays z
 
-  module _ (s : Cartesian3DTracker) (c : Candidates) (l : List ObservationAssociation) (j : ℕ) (p : Pair) (d : Detection) (k : Column) (w : Walking s c l j) (h : j < length cols) (g : j < 64)
-      (e : get_or cols j k ≡ column_from p d) (free : p.taken ≡ false) (n : ℕ) (size : length s.tracks ≡ 64) (taken : n ≡ min s.track_count 64) where
+  module _ (s : Cartesian3DTracker) (c : Candidates) (l : List ObservationAssociation) (j : ℕ) (p : Option Pair) (d : Detection) (k : Column) (w : Walking s c l j) (h : j < length cols) (g : j < 64)
+      (e : get_or cols j k ≡ column_from p d) (free : p ≡ None) (n : ℕ) (size : length s.tracks ≡ 64) (taken : n ≡ min s.track_count 64) where
     abbrev one : Reply One
     one = one_of config sensor now (low_score config d) (near_confirmed config places d) d n s.next_track_id (list_of c)
 

@@ -95,7 +95,7 @@ pub fn walk(
     c: Candidates,
     places: &Places,
     observations: [Detection; MAX_OBSERVATIONS],
-    pairs: [Pair; MAX_OBSERVATIONS],
+    pairs: [Option<Pair>; MAX_OBSERVATIONS],
     m: usize,
     time: i64,
     sensor: u32,
@@ -108,9 +108,9 @@ pub fn walk(
     let mut associations = [blank; MAX_OBSERVATIONS];
     let mut s = t;
     let mut kept = c;
+    // By index: each turn tells its place, so that a `zip` of the two arrays' first places would be counted as well, and is no plainer.
     for j in 0..n {
-        let p = pairs[j];
-        if p.taken {
+        if let Some(p) = pairs[j] {
             associations[j] = paired(j, p.track, p.cost);
             continue;
         }
@@ -139,7 +139,7 @@ pub fn walk(
 pub fn births(
     t: Cartesian3DTracker,
     observations: [Detection; MAX_OBSERVATIONS],
-    pairs: [Pair; MAX_OBSERVATIONS],
+    pairs: [Option<Pair>; MAX_OBSERVATIONS],
     m: usize,
     time: i64,
     sensor: u32,

@@ -86,12 +86,15 @@ pub fn consider(
 {
     let seen = decide(c, d, places, time, config)?;
     let candidates = seen.candidates;
-    let begun = match seen.begins {
-        None => None,
-        Some(sightings) => {
-            let track = try_spawn(d, k, id, sightings, begin_with(config, time, sensor))?;
-            Some(track)
-        }
+    let Some(sightings) = seen.begins else {
+        return Ok(Considered {
+            candidates,
+            begun: None,
+        });
     };
-    Ok(Considered { candidates, begun })
+    let track = try_spawn(d, k, id, sightings, begin_with(config, time, sensor))?;
+    Ok(Considered {
+        candidates,
+        begun: Some(track),
+    })
 }

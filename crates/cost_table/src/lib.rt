@@ -69,8 +69,9 @@ fn price_row(
     let class = t.class_label;
     let mut held: usize = 64;
     let mut factor = None;
+    // By index: four arrays are read side by side, and a chain of `zip` over them is no plainer.
     for j in 0..laid.count {
-        let seen = laid.class_at(j);
+        let seen = laid.labels[j];
         let k = laid.kin[j];
         if is_due(class, seen, held, k) {
             let noise = laid.noises[j];

@@ -73,7 +73,7 @@ rows_matched rule window now ts ds rows r e a =
           takers = s.takers;
           outcome = s.outcome;
           mates = s.mates;
-          pairs = s.pairs ∙ ap (λ (l : List Pair). lay l (replicate 64 alone)) (pairs_of_tracks rule ts s.takers ds);
+          pairs = s.pairs ∙ ap (λ (l : List (Option Pair)). lay l (replicate 64 alone)) (pairs_of_tracks rule ts s.takers ds);
           unmatched = subst (λ (l : List ℕ). Listed l p.unmatched p.unmatched_count) (ap (unmatched_of (taken_by s.takers ds) 0) (ids_of_rows ts) ∙ unmatched_numbers (taken_by s.takers ds) 0 ts) s.unmatched;
         }
 

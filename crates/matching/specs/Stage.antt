@@ -37,7 +37,7 @@ unmatched_in ts ds takers = unmatched_from (taken_by takers ds) 0 ts
 unfoldable pub rows_taken : PairConfig → Option ℤ → ℤ → List Row → List Detection → Reply (List (Option ℕ))
 rows_taken rule window now rows ds = and_then (row_costs rule rows ds) (λ costs. rows_paired rule.gate_squared_mahalanobis window now rows costs (length ds))
 
-abbrev pub pairs_in : PairConfig → List Row → List Detection → List (Option ℕ) → List Pair
+abbrev pub pairs_in : PairConfig → List Row → List Detection → List (Option ℕ) → List (Option Pair)
 pairs_in rule rows ds takers = zipped (pair_of rule rows) takers ds
 
 abbrev pub ids_left : List Row → List Detection → List (Option ℕ) → List ℕ
@@ -45,7 +45,7 @@ ids_left rows ds takers = unmatched_of (taken_by takers ds) 0 (ids_of rows)
 
 -- ---- the whole answer: the number of a refusal, or takers, and each place of the arrays that tell of them
 
-pub record Settles (reply : Reply (List (Option ℕ))) (told : List (Option ℕ) → List Pair) (left : List (Option ℕ) → List ℕ) (r : Paired) : Type 0 where
+pub record Settles (reply : Reply (List (Option ℕ))) (told : List (Option ℕ) → List (Option Pair)) (left : List (Option ℕ) → List ℕ) (r : Paired) : Type 0 where
   pub takers : List (Option ℕ)
   pub outcome : reply ≡ given takers
   pub mates : Mates takers r.mates

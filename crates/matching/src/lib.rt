@@ -19,7 +19,7 @@ use types::{MAX_OBSERVATIONS, MAX_TRACKS};
 #[derive(Clone, Copy)]
 pub struct Paired {
     pub mates: [usize; MAX_TRACKS],
-    pub pairs: [Pair; MAX_OBSERVATIONS],
+    pub pairs: [Option<Pair>; MAX_OBSERVATIONS],
     pub unmatched: [u64; MAX_TRACKS],
     pub unmatched_count: usize,
 }

@@ -13,7 +13,7 @@ use types::refusal::Refusal;
 use types::track::Track3D;
 use types::tracker::Cartesian3DTracker;
 
-// A track with the life that a time leaves it, and whether it goes on. No Option: the life as it is left is told of a track that goes too, so both fields always count.
+// A track with the life that a time leaves it, and whether it goes on. No Option: the life as it is left is told of a track that goes too, so both fields always count. Nor is the life's state asked instead: the verdict says the same, and no caller has to know which states end a life.
 #[derive(Clone, Copy)]
 pub struct AgedTrack {
     pub track: Track3D,
@@ -51,9 +51,8 @@ pub fn move_track(x: Track3D, time: i64, density: f64) -> Result<Track3D, Refusa
     if x.state_timestamp == time {
         return Ok(x);
     }
-    let Some(dt) = number::time::checked_duration_since(time, x.state_timestamp) else {
-        return Err(Refusal::TimestampOverflow);
-    };
+    let since = number::time::checked_duration_since(time, x.state_timestamp);
+    let dt = since.ok_or(Refusal::TimestampOverflow)?;
     move_by(x, dt, time, density)
 }
 
@@ -85,9 +84,8 @@ pub fn move_tracks(s: Cartesian3DTracker, time: i64) -> Result<Cartesian3DTracke
     let n = tables::taken(s.track_count, MAX_TRACKS);
     let mut tracks = s.tracks;
     let mut kept: usize = 0;
-    // By index: a track that stays is written to the array that is walked, which an iterator would hold.
-    for i in 0..n {
-        if let Some(track) = carry(tracks[i], time, life, density)? {
+    for x in &s.tracks[..n] {
+        if let Some(track) = carry(*x, time, life, density)? {
             tracks[kept] = track;
             kept += 1;
         }

@@ -61,8 +61,8 @@ pub fn rows_of(tracks: [Track3D; MAX_TRACKS], n: usize) -> [Row; MAX_TRACKS]
 {
     let mut rows = [blank_row(); MAX_TRACKS];
     let count = tables::taken(n, MAX_TRACKS);
-    for i in 0..count {
-        rows[i] = row_of(tracks[i]);
+    for (i, x) in tracks[..count].iter().enumerate() {
+        rows[i] = row_of(*x);
     }
     rows
 }

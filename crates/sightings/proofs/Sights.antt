@@ -1,6 +1,6 @@
 -- What the loop that lays detections out has done by index j. Assumes nothing.
+use Rattle.std.specs.Prelude.{Option}
 use mathlib.Core.Path.{◌≡◌, refl, ap, ◌∙◌}
-use mathlib.Core.Bool.{Bool}
 use mathlib.Core.List.{List, [], ◌∷◌, map}
 use Prim.Native.Nat.{ℕ, zero, suc, ◌<◌}
 use native.Mathlib.Omega.{arith}
@@ -26,24 +26,23 @@ tabulate_all {A} {B} g (x ∷ l) a = ap {B = List B} (λ r. g x ∷ r) (tabulate
 module _ (s : Sightings) where
   pub sights_long : length (sights_of s) ≡ s.count
   unfolding sights_in
-  sights_long = length_tabulate s.count (sight_at s.positions s.noises s.labels s.labelled)
+  sights_long = length_tabulate s.count (sight_at s.positions s.noises s.labels)
 
-  pub sights_at : (j : ℕ) (d : Detection) → j < s.count → get_or (sights_of s) j d ≡ sight_at s.positions s.noises s.labels s.labelled j
+  pub sights_at : (j : ℕ) (d : Detection) → j < s.count → get_or (sights_of s) j d ≡ sight_at s.positions s.noises s.labels j
   unfolding sights_in
-  sights_at j d h = get_d_tabulate d s.count j (sight_at s.positions s.noises s.labels s.labelled) h
+  sights_at j d h = get_d_tabulate d s.count j (sight_at s.positions s.noises s.labels) h
 
 -- ---- the loop
 
-pub record Sighted (observations : List Detection) (j : ℕ) (positions noises : List Vector) (labels : List ℕ) (labelled : List Bool) : Type 0 where
+pub record Sighted (observations : List Detection) (j : ℕ) (positions noises : List Vector) (labels : List (Option ℕ)) : Type 0 where
   pub positions_long : length positions ≡ 64
   pub noises_long : length noises ≡ 64
   pub labels_long : length labels ≡ 64
-  pub labelled_long : length labelled ≡ 64
-  pub at : (k : ℕ) → k < j → sight_at positions noises labels labelled k ≡ sight_of (get_or observations k no_detection)
+  pub at : (k : ℕ) → k < j → sight_at positions noises labels k ≡ sight_of (get_or observations k no_detection)
 
-pub sighted_all : (observations : List Detection) (j : ℕ) (positions noises : List Vector) (labels : List ℕ) (labelled : List Bool) → Sighted observations j positions noises labels labelled → j ≡ length observations
-    → sights_in positions noises labels labelled (length observations) ≡ map sight_of observations
+pub sighted_all : (observations : List Detection) (j : ℕ) (positions noises : List Vector) (labels : List (Option ℕ)) → Sighted observations j positions noises labels → j ≡ length observations
+    → sights_in positions noises labels (length observations) ≡ map sight_of observations
 unfolding sights_in
-sighted_all observations j positions noises labels labelled s e =
-    tabulate_same (length observations) (sight_at positions noises labels labelled) (λ k. sight_of (get_or observations k no_detection)) (λ k l. s.at k (omega arith))
+sighted_all observations j positions noises labels s e =
+    tabulate_same (length observations) (sight_at positions noises labels) (λ k. sight_of (get_or observations k no_detection)) (λ k l. s.at k (omega arith))
     ∙ tabulate_all sight_of observations no_detection

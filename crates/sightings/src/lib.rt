@@ -1,8 +1,8 @@
 // What pairs read of a batch's detections, laid out once in arrays of numbers; and which of them have the same covariance.
 #![tactic(auto)]
 
-ghost use Rattle.std.specs.Prelude.{◌≡◌, true, map, ◌≤◌, ◌<◌, length};
-ghost use Rattle.sightings.specs.Sights.{class_at, sight_of, Kin};
+ghost use Rattle.std.specs.Prelude.{◌≡◌, true, map, ◌≤◌, length};
+ghost use Rattle.sightings.specs.Sights.{sight_of, Kin};
 ghost use Rattle.sightings.specs.Laid.{sights_of, Sound};
 
 use detections::Detection;
@@ -13,8 +13,7 @@ use detections::Detection;
 pub struct Sightings {
     pub positions: [[f64; 3]; 64],
     pub noises: [[f64; 9]; 64],
-    pub labels: [u32; 64],
-    pub labelled: [bool; 64],
+    pub labels: [Option<u32>; 64],
     pub kin: [usize; 64],
     pub count: usize,
 }
@@ -40,23 +39,9 @@ impl Sightings {
         Sightings {
             positions: [[0.0; 3]; 64],
             noises: [[0.0; 9]; 64],
-            labels: [0; 64],
-            labelled: [false; 64],
+            labels: [None; 64],
             kin: [0; 64],
             count: 0,
-        }
-    }
-
-    // The class of the detection at j.
-    // A leaf, as all that is public here: who calls has counted the places.
-    pub fn class_at(&self, j: usize) -> Option<u32>
-        requires { j < 64 }
-        ensures { result ≡ class_at self.now.labels self.now.labelled j }
-    {
-        if self.labelled[j] {
-            Some(self.labels[j])
-        } else {
-            None
         }
     }
 
@@ -68,8 +53,7 @@ impl Sightings {
         for (j, d) in observations.iter().enumerate() {
             self.positions[j] = d.position;
             self.noises[j] = d.covariance;
-            self.labels[j] = d.class_label.unwrap_or(0);
-            self.labelled[j] = d.class_label.is_some();
+            self.labels[j] = d.class_label;
         }
         self.count = observations.len();
     }
@@ -80,6 +64,7 @@ impl Sightings {
         ensures { (self.new.count ≡ self.old.count) × (sights_of self.new ≡ sights_of self.old) × Kin self.new.noises self.new.count self.new.kin }
     {
         let mut first: usize = 0;
+        // By index: a turn reads the row at `first` too, and writes to an array of the same record, which an iterator would hold.
         for j in 0..self.count {
             let a = self.noises[j];
             let b = self.noises[first];
@@ -90,7 +75,7 @@ impl Sightings {
         }
     }
 
-    // These detections, in the place of those that were here. A leaf, as above.
+    // These detections, in the place of those that were here. A leaf: who calls has counted the places.
     pub fn lay_detections(&mut self, observations: &[Detection])
         requires { length observations.now ≤ 64 }
         ensures { Sound self.new × (sights_of self.new ≡ map sight_of observations.now) }

@@ -47,9 +47,10 @@ fn is_confirmed(state: TrackLifecycleState) -> bool
 pub fn spot_of(x: Track3D) -> Spot
     ensures { result ≡ spot_of x }
 {
-    let f = x.filter;
-    let position = [f.state[0], f.state[1], f.state[2]];
-    Spot { position }
+    let s = x.filter.state;
+    Spot {
+        position: [s[0], s[1], s[2]],
+    }
 }
 
 // Whether a track is confirmed.
@@ -71,8 +72,7 @@ pub fn confirmed_places(t: Cartesian3DTracker) -> Places
     ensures { result ≡ laid_out (confirmed_places (tracks_of t)) }
 {
     let n = tables::taken(t.track_count, MAX_TRACKS);
-    let nowhere = Spot { position: [0.0; 3] };
-    let mut items = [nowhere; MAX_TRACKS];
+    let mut items = [no_spot(); MAX_TRACKS];
     let mut count: usize = 0;
     for x in &t.tracks[..n] {
         if is_confirmed(x.lifecycle.state) {
@@ -111,10 +111,7 @@ fn is_low(score: Option<f64>, threshold: Option<f64>) -> bool
 fn suppress(persistence: Option<u32>) -> Ruling
     ensures { result ≡ suppressed_by persistence }
 {
-    match persistence {
-        None => Ruling::Passed,
-        Some(required) => Ruling::Counted(required),
-    }
+    persistence.map_or(Ruling::Passed, Ruling::Counted)
 }
 
 // What becomes of a detection by its score and the confirmed tracks.

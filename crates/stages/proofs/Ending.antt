@@ -1,4 +1,5 @@
 -- The last stages of a batch: the births, the sensor's sequence and the report, put together. Assumes nothing.
+use Rattle.std.specs.Prelude.{Option}
 use mathlib.Core.Path.{◌≡◌, refl, sym, ap, ◌∙◌}
 use mathlib.Core.Bool.{Bool, true, false, cond}
 use mathlib.Core.List.{List, [], ◌∷◌}
@@ -67,7 +68,7 @@ sequence_noted u v x s sensor q ev room ex =
 
 -- ---- the births of a batch
 
-module _ (u : Cartesian3DTracker) (b : ObservationBatch3D) (pairs : List Pair) (ids : List ℕ) (k : ℕ) where
+module _ (u : Cartesian3DTracker) (b : ObservationBatch3D) (pairs : List (Option Pair)) (ids : List ℕ) (k : ℕ) where
   abbrev m : Matched
   m = matched_in u b pairs ids k
 

@@ -33,7 +33,7 @@ unfoldable pub prepared_state : Cartesian3DTracker → ℤ → Reply State
 prepared_state t now = and_then (predicted_tracks t.config now (tracks_of t)) (λ ts. given (tracks_in t (map (with_mark false) ts)))
 
 -- what stages 2 to 6 hand over: the tracker with its tracks updated, the pair of each detection, the numbers of the tracks that took none
-abbrev pub matched_in : Cartesian3DTracker → ObservationBatch3D → List Pair → List ℕ → ℕ → Matched
+abbrev pub matched_in : Cartesian3DTracker → ObservationBatch3D → List (Option Pair) → List ℕ → ℕ → Matched
 matched_in u b pairs ids n = record { tracks = tracks_of u; columns = columns_from b.count pairs b.observations; unmatched = take n ids }
 
 -- the detections of a batch that has passed its check

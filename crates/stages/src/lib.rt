@@ -77,7 +77,7 @@ pub fn prepare(t: Cartesian3DTracker, time: i64) -> Result<Cartesian3DTracker, R
     Ok(tables::tracks::clear_marks(moved))
 }
 
-// The pairing of the first n rows with the first m detections, under the settings.
+// The pairing of the first n rows with the first m detections, under the settings. Arrays and counts stand side by side, as in `matching::pair_tracks`, where a count may be anything.
 pub fn pair_rows(
     rows: [Row; MAX_TRACKS],
     n: usize,

@@ -38,10 +38,7 @@ fn correct_velocity(
 ) -> Result<KalmanFilter, math::linalg::Refusal>
     ensures { reply_of_filter result ≡ velocity_updated (moving_of deviation velocity) f }
 {
-    let Some(std) = deviation else {
-        return Ok(f);
-    };
-    let Some(v) = velocity else {
+    let (Some(std), Some(v)) = (deviation, velocity) else {
         return Ok(f);
     };
     filter::update_velocity(f, [v.x, v.y], std)
@@ -55,11 +52,9 @@ fn correct(
 ) -> Result<KalmanFilter, math::linalg::Refusal>
     ensures { reply_of_filter result ≡ corrected (moving_of deviation d.velocity) d f }
 {
-    let position = d.position;
-    let covariance = d.covariance;
-    let velocity = d.velocity;
-    let next = filter::update_from(filter::expected_position(f), f, position, covariance)?;
-    correct_velocity(next, velocity, deviation)
+    let expected = filter::expected_position(f);
+    let next = filter::update_from(expected, f, d.position, d.covariance)?;
+    correct_velocity(next, d.velocity, deviation)
 }
 
 // The track with an observation at `time` registered where it keeps its life.
@@ -74,18 +69,11 @@ pub fn register_track(mut t: Track3D, time: i64, life: LifecycleConfig) -> Track
 fn observe(x: Track3D, seen: Option<u32>, u: Update) -> Track3D
     ensures { result ≡ observed_as u seen x }
 {
-    let life = u.lifecycle;
-    let sensor = u.sensor;
-    let sensors = x.contributing_sensors;
-    let class = x.class_label;
-    let registered = register_track(x, u.time, life);
+    let sensors = x.contributing_sensors.record_sensor(u.sensor, u.limit);
+    let registered = register_track(x, u.time, u.lifecycle);
     let timed = types::track::with_state_timestamp(registered, u.time);
-    let contributed = types::track::with_sensors(
-        timed,
-        Some(sensor),
-        sensors.record_sensor(sensor, u.limit),
-    );
-    let labelled = types::track::with_class_label(contributed, class.or(seen));
+    let contributed = types::track::with_sensors(timed, Some(u.sensor), sensors);
+    let labelled = types::track::with_class_label(contributed, x.class_label.or(seen));
     types::track::with_mark(labelled, true)
 }
 
@@ -93,29 +81,25 @@ fn observe(x: Track3D, seen: Option<u32>, u: Update) -> Track3D
 pub fn update_track(x: Track3D, d: Detection, u: Update) -> Result<Track3D, Refusal>
     ensures { reply_by number_of result ≡ updated_as u x d }
 {
-    let before = x.filter;
-    let seen = d.class_label;
-    let deviation = u.deviation;
-    let filter = correct(before, d, deviation)?;
-    Ok(observe(types::track::with_filter(x, filter), seen, u))
+    let filter = correct(x.filter, d, u.deviation)?;
+    Ok(observe(types::track::with_filter(x, filter), d.class_label, u))
 }
 
 // What of the batch and the settings an update depends on.
 pub fn update_of(config: Cartesian3DTrackerConfig, sensor: u32, time: i64) -> Update
     ensures { result ≡ update_of config sensor time }
 {
-    let deviation = config.velocity_measurement_std;
-    let lifecycle = config.lifecycle;
     Update {
         time,
         sensor,
         limit: config.max_contributing_sensors,
-        deviation,
-        lifecycle,
+        deviation: config.velocity_measurement_std,
+        lifecycle: config.lifecycle,
     }
 }
 
 // The track after the detection that it took, where it took one.
+// No `Option<Detection>`: it would be built of a copy of the detection for each track. Of `Option<&Detection>` the contract has to say first what the reference points at, which is no plainer than the two values.
 pub fn update_where(x: Track3D, taken: bool, d: Detection, u: Update) -> Result<Track3D, Refusal>
     ensures { reply_by number_of result ≡ updated_or_not u x (cond taken (Some d) None) }
 {
@@ -133,11 +117,10 @@ pub fn update_tracks(
 {
     let n = tables::taken(s.track_count, MAX_TRACKS);
     let mut tracks = s.tracks;
-    // By index: over `tracks[..n].iter_mut().zip(&mates)` the invariant has to say what the iterator has still to write, and is no plainer.
-    for i in 0..n {
+    for (i, x) in s.tracks[..n].iter().enumerate() {
         let j = mates[i];
         if j < MAX_OBSERVATIONS {
-            let track = update_track(tracks[i], observations[j], u)?;
+            let track = update_track(*x, observations[j], u)?;
             tracks[i] = track;
         }
     }

@@ -33,8 +33,8 @@ loop-j-init c =
           (walking_start _ _ _ _ _ _ a.t a.c refl),
     )
 
-pub loop-j-preserved-then-p : goal.loop-j-preserved-then-p
-loop-j-preserved-then-p c =
+pub loop-j-preserved-in-Some : goal.loop-j-preserved-in-Some
+loop-j-preserved-in-Some c =
     let n = c.taken-n in
     let a = c.args in
     let v = c.loop-j.invariant in
@@ -46,12 +46,12 @@ loop-j-preserved-then-p c =
       v.3,
       v.4,
       length-set c.loop-j.associations c.loop-j.j _ ∙ v.5,
-      walking_taken _ _ _ _ _ _ _ c.loop-j.s c.loop-j.kept c.loop-j.associations c.loop-j.j (get_or a.pairs c.loop-j.j no_pair) (get_or a.observations c.loop-j.j no_detection) no_column c.paired.result v.6
-          (omega (arith, long, h)) (omega (arith, v.1, h)) (column_at_lem a.pairs a.observations a.m n.result v.3 v.2 n.ensures c.loop-j.j no_pair no_detection no_column h) c.if-p.true c.paired.ensures,
+      walking_taken _ _ _ _ _ _ _ c.loop-j.s c.loop-j.kept c.loop-j.associations c.loop-j.j (get_or a.pairs c.loop-j.j no_pair) c.in-Some.p (get_or a.observations c.loop-j.j no_detection) no_column c.paired.result v.6
+          (omega (arith, long, h)) (omega (arith, v.1, h)) (column_at_lem a.pairs a.observations a.m n.result v.3 v.2 n.ensures c.loop-j.j no_pair no_detection no_column h) c.in-Some.is c.paired.ensures,
     )
 
-pub loop-j-preserved-in_default : goal.loop-j-preserved-in_default
-loop-j-preserved-in_default c =
+pub loop-j-preserved-in_default-begun : goal.loop-j-preserved-in_default-begun
+loop-j-preserved-in_default-begun c =
     let n = c.taken-n in
     let a = c.args in
     let v = c.loop-j.invariant in
@@ -64,18 +64,18 @@ loop-j-preserved-in_default c =
       v.4,
       length-set c.loop-j.associations c.loop-j.j _ ∙ v.5,
       walking_alone _ _ _ _ _ _ _ c.loop-j.s c.loop-j.kept c.loop-j.associations c.loop-j.j (get_or a.pairs c.loop-j.j no_pair) (get_or a.observations c.loop-j.j no_detection) no_column v.6
-          (omega (arith, long, h)) (omega (arith, v.1, h)) (column_at_lem a.pairs a.observations a.m n.result v.3 v.2 n.ensures c.loop-j.j no_pair no_detection no_column h) c.if-p.false
-          c.taken-k.result v.4 c.taken-k.ensures c.in_ok-x.x.candidates c.alone.result (considered_is c.loop-j.kept c.in_ok-x.x _ None c.in_ok-x.ensures c.in_default.is) c.alone.ensures,
+          (omega (arith, long, h)) (omega (arith, v.1, h)) (column_at_lem a.pairs a.observations a.m n.result v.3 v.2 n.ensures c.loop-j.j no_pair no_detection no_column h) c.in_default.is
+          c.taken-k.result v.4 c.taken-k.ensures c.in_ok-x.x.candidates c.alone.result (considered_is c.loop-j.kept c.in_ok-x.x _ None c.in_ok-x.ensures c.in_default-begun.is) c.alone.ensures,
     )
 
 pub bounds-s-k : goal.bounds-s-k
 bounds-s-k c =
-    let room = begun_room _ _ _ _ _ _ _ _ _ (list_of c.in_ok-x.x.candidates) c.in-Some.track (considered_is c.loop-j.kept c.in_ok-x.x _ (Some c.in-Some.track) c.in_ok-x.ensures c.in-Some.is) in
+    let room = begun_room _ _ _ _ _ _ _ _ _ (list_of c.in_ok-x.x.candidates) c.in-Some-begun.track (considered_is c.loop-j.kept c.in_ok-x.x _ (Some c.in-Some-begun.track) c.in_ok-x.ensures c.in-Some-begun.is) in
     room.0
 
 pub overflow_add-s-in-loop-j : goal.overflow_add-s-in-loop-j
 overflow_add-s-in-loop-j c =
-    let room = begun_room _ _ _ _ _ _ _ _ _ (list_of c.in_ok-x.x.candidates) c.in-Some.track (considered_is c.loop-j.kept c.in_ok-x.x _ (Some c.in-Some.track) c.in_ok-x.ensures c.in-Some.is) in
+    let room = begun_room _ _ _ _ _ _ _ _ _ (list_of c.in_ok-x.x.candidates) c.in-Some-begun.track (considered_is c.loop-j.kept c.in_ok-x.x _ (Some c.in-Some-begun.track) c.in_ok-x.ensures c.in-Some-begun.is) in
     omega (arith, room.1)
 
 pub loop-j-preserved : goal.loop-j-preserved
@@ -85,8 +85,8 @@ loop-j-preserved c =
     let v = c.loop-j.invariant in
     let h = c.loop-j-test.true in
     let long = columns_length a.pairs a.observations a.m n.result v.3 v.2 n.ensures in
-    let one = considered_is c.loop-j.kept c.in_ok-x.x _ (Some c.in-Some.track) c.in_ok-x.ensures c.in-Some.is in
-    let room = begun_room _ _ _ _ _ _ _ _ _ (list_of c.in_ok-x.x.candidates) c.in-Some.track one in (
+    let one = considered_is c.loop-j.kept c.in_ok-x.x _ (Some c.in-Some-begun.track) c.in_ok-x.ensures c.in-Some-begun.is in
+    let room = begun_room _ _ _ _ _ _ _ _ _ (list_of c.in_ok-x.x.candidates) c.in-Some-begun.track one in (
       search rules,
       v.1,
       v.2,
@@ -94,8 +94,8 @@ loop-j-preserved c =
       length-set c.loop-j.s.tracks c.taken-k.result _ ∙ v.4,
       length-set c.loop-j.associations c.loop-j.j _ ∙ v.5,
       walking_begun _ _ _ _ _ _ _ c.loop-j.s c.loop-j.kept c.loop-j.associations c.loop-j.j (get_or a.pairs c.loop-j.j no_pair) (get_or a.observations c.loop-j.j no_detection) no_column v.6
-          (omega (arith, long, h)) (omega (arith, v.1, h)) (column_at_lem a.pairs a.observations a.m n.result v.3 v.2 n.ensures c.loop-j.j no_pair no_detection no_column h) c.if-p.false
-          c.taken-k.result v.4 c.taken-k.ensures c.in_ok-x.x.candidates c.in-Some.track c.begun.result room.0 one c.begun.ensures,
+          (omega (arith, long, h)) (omega (arith, v.1, h)) (column_at_lem a.pairs a.observations a.m n.result v.3 v.2 n.ensures c.loop-j.j no_pair no_detection no_column h) c.in_default.is
+          c.taken-k.result v.4 c.taken-k.ensures c.in_ok-x.x.candidates c.in-Some-begun.track c.begun.result room.0 one c.begun.ensures,
     )
 
 pub returns-in_err-x : goal.returns-in_err-x
@@ -111,7 +111,7 @@ returns-in_err-x c =
     (walk_stops a.t _ (number_of why)
     (rw (to_z-of_z c.ranges.time) at
     (walking_refused _ _ _ _ _ _ _ c.loop-j.s c.loop-j.kept c.loop-j.associations c.loop-j.j (get_or a.pairs c.loop-j.j no_pair) (get_or a.observations c.loop-j.j no_detection) no_column v.6
-    (omega (arith, long, h)) (omega (arith, v.1, h)) (column_at_lem a.pairs a.observations a.m n.result v.3 v.2 n.ensures c.loop-j.j no_pair no_detection no_column h) c.if-p.false
+    (omega (arith, long, h)) (omega (arith, v.1, h)) (column_at_lem a.pairs a.observations a.m n.result v.3 v.2 n.ensures c.loop-j.j no_pair no_detection no_column h) c.in_default.is
     c.taken-k.result v.4 c.taken-k.ensures (number_of why) (considered_not c.loop-j.kept (number_of why) _ c.in_err-x.ensures))))
 
 pub returns : goal.returns

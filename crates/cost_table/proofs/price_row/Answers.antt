@@ -1,7 +1,7 @@
 -- `cost_table::price_row` meets its contract: the costs of the first j detections are laid from `at` on, and the factor is that of S for the covariance at `held`. Assumes nothing.
 use Rattle.std.proofs.lemmas.Result.{err_from_is_err_and}
 use Rattle.types.specs.declared.refusal.Refusal.{Refusal}
-use Rattle.std.specs.Prelude.{Err, Float, Ok, Option, Result}
+use Rattle.std.specs.Prelude.{Err, Float, None, Ok, Option, Result}
 use Rattle.cholesky.specs.declared.Lower.{Lower}
 use mathlib.Core.Path.{◌≡◌, refl, sym, ap, ◌∙◌, subst}
 use mathlib.Core.Bool.{true}
@@ -21,7 +21,7 @@ use Rattle.pairing.specs.Rows.{price_reply}
 use Rattle.pairing.proofs.Laying.{laying_none, laying_more, laying_stops, laying_all}
 use Rattle.sightings.specs.declared.Sightings.{Sightings}
 use Rattle.sightings.specs.Laid.{sights_of}
-use Rattle.sightings.specs.Sights.{sight, class_at}
+use Rattle.sightings.specs.Sights.{sight}
 use Rattle.sightings.proofs.Sights.{sights_long, sights_at}
 use Rattle.cost_table.specs.Table.{reply_of_entry, priced_by}
 use Rattle.cost_table.proofs.Pricing.{priced_new, priced_held}
@@ -54,7 +54,7 @@ module _ (rule : PairConfig) (t : Target) (noises : List Vector) (j k : ℕ) (se
       (s, (λ z. priced_held rule t z seen noises k j same f held s few (λ e. q ∙ due e)))
 
 -- the price of the detection that was read
-price_lem : (rule : PairConfig) (t : Target) (laid : Sightings) (j : ℕ) (seen : Option ℕ) (f : Reply Matrix) (r : Result Float Refusal) → j < laid.count → seen ≡ class_at laid.labels laid.labelled j
+price_lem : (rule : PairConfig) (t : Target) (laid : Sightings) (j : ℕ) (seen : Option ℕ) (f : Reply Matrix) (r : Result Float Refusal) → j < laid.count → seen ≡ get_or laid.labels j None
     → reply_of_entry r ≡ priced_by rule t (get_or laid.positions j []) seen f → ((z : Vector) → priced_by rule t z seen f ≡ price_reply rule t (sight z (get_or laid.noises j []) seen))
     → price_reply rule t (get_or (sights_of laid) j no_detection) ≡ reply_of_entry r
 price_lem rule t laid j seen f r h e q serves =
@@ -70,16 +70,16 @@ loop-j-preserved c =
     let v = c.loop-j.invariant in
     let same = c.requires.0.kin.same c.loop-j.j t in
     let few : get_or a.laid.now.kin c.loop-j.j 0 < 64 = omega (arith, t, v.1, c.requires.0.few, c.requires.0.kin.before c.loop-j.j t) in
-    let s : Serves a.rule a.t a.laid.now.noises c.loop-j.j c.class_at-seen.result c.if-is_due.factor c.if-is_due.held =
+    let s : Serves a.rule a.t a.laid.now.noises c.loop-j.j (get_or a.laid.now.labels c.loop-j.j None) c.if-is_due.factor c.if-is_due.held =
     elim c.if-is_due.branch [
-      | then-is_due w ↦ new_serves a.rule a.t a.laid.now.noises c.loop-j.j (get_or a.laid.now.kin c.loop-j.j 0) c.class_at-seen.result same _ _ w.held-is (ap reply_of_factor w.factor-is ∙ w.factor_from-factor.ensures)
-      | else-is_due w ↦ held_serves a.rule a.t a.laid.now.noises c.loop-j.j (get_or a.laid.now.kin c.loop-j.j 0) c.class_at-seen.result same _ _ _ _ w.held-is w.factor-is v.2 few (c.is_due.ensures w.if-is_due.false)
+      | then-is_due w ↦ new_serves a.rule a.t a.laid.now.noises c.loop-j.j (get_or a.laid.now.kin c.loop-j.j 0) (get_or a.laid.now.labels c.loop-j.j None) same _ _ w.held-is (ap reply_of_factor w.factor-is ∙ w.factor_from-factor.ensures)
+      | else-is_due w ↦ held_serves a.rule a.t a.laid.now.noises c.loop-j.j (get_or a.laid.now.kin c.loop-j.j 0) (get_or a.laid.now.labels c.loop-j.j None) same _ _ _ _ w.held-is w.factor-is v.2 few (c.is_due.ensures w.if-is_due.false)
     ] in (
       omega arith,
       v.1,
       s.0,
       laying_more _ _ _ _ c.loop-j.j _ _ no_detection _ v.3 (omega (arith, t, v.1, sights_long a.laid.now)) refl
-          (price_lem a.rule a.t a.laid.now c.loop-j.j _ _ (Ok c.in_ok-cost.cost) (omega (arith, t, v.1)) c.class_at-seen.ensures c.in_ok-cost.ensures s.1),
+          (price_lem a.rule a.t a.laid.now c.loop-j.j _ _ (Ok c.in_ok-cost.cost) (omega (arith, t, v.1)) refl c.in_ok-cost.ensures s.1),
     )
 
 pub returns-in_err-cost : goal.returns-in_err-cost
@@ -89,15 +89,15 @@ returns-in_err-cost c =
     let v = c.loop-j.invariant in
     let same = c.requires.0.kin.same c.loop-j.j t in
     let few : get_or a.laid.now.kin c.loop-j.j 0 < 64 = omega (arith, t, v.1, c.requires.0.few, c.requires.0.kin.before c.loop-j.j t) in
-    let s : Serves a.rule a.t a.laid.now.noises c.loop-j.j c.class_at-seen.result c.if-is_due.factor c.if-is_due.held =
+    let s : Serves a.rule a.t a.laid.now.noises c.loop-j.j (get_or a.laid.now.labels c.loop-j.j None) c.if-is_due.factor c.if-is_due.held =
     elim c.if-is_due.branch [
-      | then-is_due w ↦ new_serves a.rule a.t a.laid.now.noises c.loop-j.j (get_or a.laid.now.kin c.loop-j.j 0) c.class_at-seen.result same _ _ w.held-is (ap reply_of_factor w.factor-is ∙ w.factor_from-factor.ensures)
-      | else-is_due w ↦ held_serves a.rule a.t a.laid.now.noises c.loop-j.j (get_or a.laid.now.kin c.loop-j.j 0) c.class_at-seen.result same _ _ _ _ w.held-is w.factor-is v.2 few (c.is_due.ensures w.if-is_due.false)
+      | then-is_due w ↦ new_serves a.rule a.t a.laid.now.noises c.loop-j.j (get_or a.laid.now.kin c.loop-j.j 0) (get_or a.laid.now.labels c.loop-j.j None) same _ _ w.held-is (ap reply_of_factor w.factor-is ∙ w.factor_from-factor.ensures)
+      | else-is_due w ↦ held_serves a.rule a.t a.laid.now.noises c.loop-j.j (get_or a.laid.now.kin c.loop-j.j 0) (get_or a.laid.now.labels c.loop-j.j None) same _ _ _ _ w.held-is w.factor-is v.2 few (c.is_due.ensures w.if-is_due.false)
     ] in
     let p = err_from_is_err_and c.from_residual.result c.from_residual.ensures.1 in
     rw (p.1, p.2)
     (laying_stops _ _ _ _ c.loop-j.j _ no_detection _ v.3 (omega (arith, t, v.1, sights_long a.laid.now))
-    (price_lem a.rule a.t a.laid.now c.loop-j.j _ _ (Err c.in_err-cost.field-0.0) (omega (arith, t, v.1)) c.class_at-seen.ensures c.in_err-cost.ensures s.1))
+    (price_lem a.rule a.t a.laid.now c.loop-j.j _ _ (Err c.in_err-cost.field-0.0) (omega (arith, t, v.1)) refl c.in_err-cost.ensures s.1))
 
 pub returns : goal.returns
 returns c = laying_all _ _ _ _ c.loop-j.j _ (omega (arith, c.loop-j-test.false, c.loop-j.invariant.0, c.loop-j.invariant.1, sights_long c.args.laid.now)) c.loop-j.invariant.3

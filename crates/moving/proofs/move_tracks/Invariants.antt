@@ -5,10 +5,9 @@ use Rattle.calls.specs.Predict.{continued, moved}
 use Rattle.moving.proofs.Passing.{Passed}
 use Rattle.moving.proofs.move_tracks.Given as goal
 
-abbrev pub invariant-loop-i : goal.invariant-loop-i
-invariant-loop-i l =
-    (l.i ≤ l.n)
-    × (l.n ≤ 64)
+abbrev pub invariant-loop-x : goal.invariant-loop-x
+invariant-loop-x l =
+    (l.n ≤ 64)
     × (length l.initial.tracks ≡ 64)
-    × (l.kept ≤ l.i)
-    × Passed (continued l.life l.time) (moved l.density l.time) l.initial.tracks l.tracks l.i l.kept
+    × (l.kept ≤ l.x-index)
+    × Passed (continued l.life l.time) (moved l.density l.time) l.initial.tracks l.tracks l.x-index l.kept

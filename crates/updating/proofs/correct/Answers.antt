@@ -9,9 +9,9 @@ pub returns-in_err-next : goal.returns-in_err-next
 returns-in_err-next c =
     let a = c.args in
     let p = err_from_is_err_and c.from_residual.result c.from_residual.ensures.1 in
-    rw (p.1, p.2) (by_position (moving_of a.deviation a.d.velocity) a.d a.f c.expected_position.result (refused _) c.expected_position.ensures c.in_err-next.ensures)
+    rw (p.1, p.2) (by_position (moving_of a.deviation a.d.velocity) a.d a.f c.expected_position-expected.result (refused _) c.expected_position-expected.ensures c.in_err-next.ensures)
 
 pub returns : goal.returns
 returns c =
     let a = c.args in
-    c.correct_velocity.ensures ∙ by_position (moving_of a.deviation a.d.velocity) a.d a.f c.expected_position.result (given c.in_ok-next.next) c.expected_position.ensures c.in_ok-next.ensures
+    c.correct_velocity.ensures ∙ by_position (moving_of a.deviation a.d.velocity) a.d a.f c.expected_position-expected.result (given c.in_ok-next.next) c.expected_position-expected.ensures c.in_ok-next.ensures

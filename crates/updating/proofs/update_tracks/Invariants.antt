@@ -7,4 +7,4 @@ use Rattle.updating.proofs.All.{steps}
 use Rattle.updating.proofs.update_tracks.Given as goal
 
 abbrev pub invariant-loop-i : goal.invariant-loop-i
-invariant-loop-i l = (l.i ≤ l.n) × (l.n ≤ 64) × (length l.initial.tracks ≡ 64) × Stepped (steps l.u (mate_of l.mates l.observations)) l.initial.tracks l.tracks l.i
+invariant-loop-i l = (l.n ≤ 64) × (length l.initial.tracks ≡ 64) × Stepped (steps l.u (mate_of l.mates l.observations)) l.initial.tracks l.tracks l.i

@@ -5,4 +5,4 @@ use Rattle.sightings.proofs.Sights.{sighted_all}
 use Rattle.sightings.proofs.Sightings.lay.Goals as goal
 
 pub returns : goal.returns
-returns c = (refl, sighted_all _ c.loop-j.j _ _ _ _ c.loop-j.invariant.1 (omega (arith, c.loop-j-test.false, c.loop-j.invariant.0)))
+returns c = (refl, sighted_all _ c.loop-j.j _ _ _ c.loop-j.invariant.1 (omega (arith, c.loop-j-test.false, c.loop-j.invariant.0)))

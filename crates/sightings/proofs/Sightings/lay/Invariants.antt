@@ -4,4 +4,4 @@ use Rattle.sightings.proofs.Sights.{Sighted}
 use Rattle.sightings.proofs.Sightings.lay.Given as goal
 
 abbrev pub invariant-loop-j : goal.invariant-loop-j
-invariant-loop-j l = (l.j ≤ length l.observations) × Sighted l.observations l.j l.self.positions l.self.noises l.self.labels l.self.labelled
+invariant-loop-j l = (l.j ≤ length l.observations) × Sighted l.observations l.j l.self.positions l.self.noises l.self.labels

@@ -10,7 +10,7 @@ use Rattle.spawning.proofs.ruling.confirmed_places.Goals as goal
 use Rattle.spawning.proofs.ruling.confirmed_places.Goals.{then-is_confirmed, else-is_confirmed}
 
 pub loop-x-init : goal.loop-x-init
-loop-x-init c = (omega (arith, length-take c.taken-n.result c.args.t.tracks, c.taken-n.ensures), omega arith, gathered_start _)
+loop-x-init c = (omega (arith, length-take c.taken-n.result c.args.t.tracks, c.taken-n.ensures), omega arith, rw c.no_spot-items.ensures (gathered_start _))
 
 pub loop-x-preserved : goal.loop-x-preserved
 loop-x-preserved c =

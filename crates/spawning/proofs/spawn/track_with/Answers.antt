@@ -10,4 +10,4 @@ unfolding born_track
 returns c =
     let a = c.args in
     let f : SFits w64 a.b.time = search rules in
-    rw (to_z-of_z f, c.first_sensor-contributing_sensors.ensures, rw (to_z-of_z f) at c.first_life-lifecycle.ensures)
+    rw (to_z-of_z f, c.first_sensor.ensures, rw (to_z-of_z f) at c.first_life.ensures)
