@@ -21,6 +21,7 @@ pub enum ObservationOutcome {
     Unmatched,
 }
 
+// What the report says of one detection. The outcome says which of `track_id` and `cost` is there; they are fields of their own, no parts of the outcome, as in the Rust's types.rs, from which 01 takes the record, and in the C record.
 #[derive(Clone, Copy)]
 pub struct ObservationAssociation {
     pub observation_index: usize,
