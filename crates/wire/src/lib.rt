@@ -94,7 +94,7 @@ pub fn at_most(n: u64, limit: usize) -> usize
 }
 
 // A number of 32 bits, the lower ones of a word.
-pub fn u32_of(n: u64) -> u32
+pub fn low_half(n: u64) -> u32
     ensures { result ≡ n % 4294967296 }
 {
     (n % 4294967296) as u32
