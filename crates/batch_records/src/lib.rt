@@ -1,4 +1,5 @@
-// A batch and its report as a C program holds them.
+// A batch and its report as a C program holds them. Conversions are functions by name, not `From`: each bears the name of the definition that it equals, which the contracts above cite, and a `from` would say the same and be no plainer;
+// a report's takes a number beside it. Arrays are named by `let` before they are parts of a record: the check takes none straight.
 #![tactic(auto)]
 
 ghost use Rattle.std.specs.Prelude.{◌≡◌, ◌<◌, map};
@@ -64,11 +65,10 @@ pub fn detection_of(d: PkDetection) -> Detection
 {
     let position = d.position;
     let covariance = d.covariance;
-    let velocity = d.velocity;
     Detection {
         position,
         covariance,
-        velocity: flags::velocity_of(d.has_velocity, velocity[0], velocity[1]),
+        velocity: flags::velocity_of(d.has_velocity, d.velocity[0], d.velocity[1]),
         class_label: flags::flagged(d.has_class, d.class_label),
         score: flags::flagged(d.has_score, d.score),
     }
@@ -89,12 +89,11 @@ pub fn batch_of(b: PkBatch) -> ObservationBatch3D
     ensures { result ≡ batch_of b }
 {
     let observations = detections_of(b);
-    let frame_id = b.frame;
     ObservationBatch3D {
         sensor_id: b.sensor_id,
         sequence: b.sequence,
         timestamp: b.timestamp,
-        frame_id,
+        frame_id: b.frame,
         observations,
         count: b.count,
     }
@@ -105,13 +104,12 @@ pub fn association_to(a: ObservationAssociation) -> PkAssociation
     ensures { result ≡ association_to a }
 {
     let track = a.track_id;
-    let outcome = a.outcome;
     let cost = a.cost;
     PkAssociation {
         observation_index: a.observation_index,
         track_id: track.unwrap_or(0),
         cost: cost.unwrap_or(0.0),
-        outcome: flags::outcome_to(outcome),
+        outcome: flags::outcome_to(a.outcome),
         has_track: flags::flag(track),
         has_cost: flags::flag(cost),
         reserved: 0,

@@ -17,20 +17,14 @@ use types::{MAX_OBSERVATIONS, MAX_SEQUENCES};
 pub fn is_before(last: Option<i64>, time: i64) -> bool
     ensures { result ≡ is_before last time }
 {
-    match last {
-        None => false,
-        Some(t) => time < t,
-    }
+    last.is_some_and(|t| time < t)
 }
 
 // Whether a sequence number is not above the sensor's last.
 fn is_repeated(last: Option<u64>, sequence: u64) -> bool
     ensures { result ≡ is_repeated last sequence }
 {
-    match last {
-        None => false,
-        Some(q) => sequence <= q,
-    }
+    last.is_some_and(|q| sequence <= q)
 }
 
 // The check of the detections: the first that is refused decides.

@@ -53,7 +53,7 @@ pub fn mark_to(m: bool) -> u32
     u32::from(m)
 }
 
-// Tentative is 0, Confirmed 1, Lost 2; Deleted is 3 and what else a C program writes there.
+// Tentative is 0, Confirmed 1, Lost 2; Deleted is 3 and what else a C program writes there. No `as` leads from a number to an enum.
 pub fn life_of(n: u32) -> TrackLifecycleState
     ensures { result ≡ life_of n }
 {
@@ -65,6 +65,7 @@ pub fn life_of(n: u32) -> TrackLifecycleState
     }
 }
 
+// By a table: the numbers are the C record's, and crate `lifecycle`, whose enum it is, knows of none; here an `as` would read the order of its declaration, no plainer.
 pub fn life_to(s: TrackLifecycleState) -> u32
     ensures { result ≡ life_to s }
 {
@@ -82,13 +83,8 @@ pub fn velocity_of(has: u32, x: f64, y: f64) -> Option<PlanarVelocity>
     flagged(has, PlanarVelocity { x, y })
 }
 
-// Unmatched is 0, Updated 1, Spawned 2.
 pub fn outcome_to(o: ObservationOutcome) -> u32
     ensures { result ≡ outcome_to o }
 {
-    match o {
-        ObservationOutcome::Updated => 1,
-        ObservationOutcome::Spawned => 2,
-        ObservationOutcome::Unmatched => 0,
-    }
+    o as u32
 }

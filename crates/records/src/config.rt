@@ -1,4 +1,4 @@
-// The settings as a C program holds them.
+// The settings as a C program holds them. Conversions are functions by name, not `From`: each bears the name of the definition that it equals, which the contracts above cite, and a `from` would say the same and be no plainer.
 ghost use Rattle.std.specs.Prelude.{◌≡◌};
 ghost use Rattle.records.specs.Configs.{settings_of, settings_to};
 
@@ -34,16 +34,14 @@ pub struct PkSettings {
 pub fn settings_of(s: PkSettings) -> Cartesian3DTrackerConfig
     ensures { result ≡ settings_of s }
 {
-    let lifecycle = s.lifecycle;
-    let frame_id = s.frame;
     Cartesian3DTrackerConfig {
-        lifecycle,
+        lifecycle: s.lifecycle,
         new_track_score_threshold: flags::flagged(
             s.has_new_track_score_threshold,
             s.new_track_score_threshold,
         ),
         max_contributing_sensors: s.max_contributing_sensors,
-        frame_id,
+        frame_id: s.frame,
         accel_spectral_density: s.accel_spectral_density,
         initial_velocity_variance: s.initial_velocity_variance,
         gate_squared_mahalanobis: s.gate_squared_mahalanobis,
@@ -64,17 +62,15 @@ pub fn settings_of(s: PkSettings) -> Cartesian3DTrackerConfig
 pub fn settings_to(s: Cartesian3DTrackerConfig) -> PkSettings
     ensures { result ≡ settings_to s }
 {
-    let lifecycle = s.lifecycle;
-    let frame = s.frame_id;
     let threshold = s.new_track_score_threshold;
     let window = s.recent_track_window_ns;
     let distance = s.min_birth_distance_m;
     let persistence = s.birth_persistence;
     let deviation = s.velocity_measurement_std;
     PkSettings {
-        lifecycle,
+        lifecycle: s.lifecycle,
         max_contributing_sensors: s.max_contributing_sensors,
-        frame,
+        frame: s.frame_id,
         accel_spectral_density: s.accel_spectral_density,
         initial_velocity_variance: s.initial_velocity_variance,
         gate_squared_mahalanobis: s.gate_squared_mahalanobis,

@@ -1,4 +1,5 @@
-// The whole tracker as a C program holds it: read as a tracker, and one after a call laid over it.
+// The whole tracker as a C program holds it: read as a tracker, and one after a call laid over it. Functions by name, not `From`: each bears the name of the definition that it equals, which the contracts above cite, and a `from` would say the
+// same and be no plainer; laid over is no conversion. Arrays are named by `let` before they are parts of a record: the check takes none straight.
 ghost use Rattle.std.specs.Prelude.{◌≡◌, ◌<◌, map};
 ghost use Rattle.lists.specs.Lay.{lay};
 ghost use Rattle.types.specs.States.{tracks_of};
@@ -45,8 +46,6 @@ pub fn tracker_of(t: PkTracker) -> Cartesian3DTracker
     ensures { result ≡ tracker_of t }
 {
     let tracks = tracks_of(t);
-    let pk = t.settings;
-    let config = super::config::settings_of(pk);
     let sequences = t.sequences;
     let candidates = t.candidates;
     Cartesian3DTracker {
@@ -58,7 +57,7 @@ pub fn tracker_of(t: PkTracker) -> Cartesian3DTracker
         sequence_count: t.sequence_count,
         candidates,
         candidate_count: t.candidate_count,
-        config,
+        config: super::config::settings_of(t.settings),
     }
 }
 
@@ -68,10 +67,8 @@ fn tracks_over(t: PkTracker, u: Cartesian3DTracker) -> [PkTrack; 64]
 {
     let n = tables::taken(u.track_count, MAX_TRACKS);
     let mut out = t.tracks;
-    // By index: what a loop writes through `iter_mut().zip(..)` is no fact that a proof has.
-    for i in 0..n {
-        let x = u.tracks[i];
-        out[i] = super::tracks::track_to(x);
+    for (i, x) in u.tracks[..n].iter().enumerate() {
+        out[i] = super::tracks::track_to(*x);
     }
     out
 }
@@ -83,7 +80,6 @@ pub fn lay_over(t: PkTracker, u: Cartesian3DTracker) -> PkTracker
     let tracks = tracks_over(t, u);
     let sequences = u.sequences;
     let candidates = u.candidates;
-    let settings = t.settings;
     let last = u.last_time;
     PkTracker {
         tracks,
@@ -94,7 +90,7 @@ pub fn lay_over(t: PkTracker, u: Cartesian3DTracker) -> PkTracker
         sequence_count: u.sequence_count,
         candidates,
         candidate_count: u.candidate_count,
-        settings,
+        settings: t.settings,
         has_last_time: flags::flag(last),
         reserved: t.reserved,
     }

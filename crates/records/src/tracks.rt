@@ -1,4 +1,4 @@
-// A track as a C program holds it.
+// A track as a C program holds it. Conversions are functions by name, not `From`: each bears the name of the definition that it equals, which the contracts above cite, and a `from` would say the same and be no plainer.
 ghost use Rattle.std.specs.Prelude.{◌≡◌};
 ghost use Rattle.records.specs.Tracks.{lifecycle_of, track_of, track_to};
 
@@ -48,17 +48,15 @@ fn lifecycle_of(t: PkTrack) -> TrackLifecycle
 pub fn track_of(t: PkTrack) -> Track3D
     ensures { result ≡ track_of t }
 {
-    let filter = t.filter;
-    let contributing_sensors = t.sensors;
     Track3D {
         id: t.id,
-        filter,
+        filter: t.filter,
         lifecycle: lifecycle_of(t),
         class_label: flags::flagged(t.has_class, t.class_label),
         class_prior: flags::prior_of(t.has_prior, t.prior_label, t.prior_confidence),
         state_timestamp: t.state_timestamp,
         last_update_sensor: flags::flagged(t.has_last_sensor, t.last_sensor),
-        contributing_sensors,
+        contributing_sensors: t.sensors,
         updated_this_batch: flags::mark_of(t.updated),
     }
 }
@@ -67,10 +65,7 @@ pub fn track_of(t: PkTrack) -> Track3D
 pub fn track_to(t: Track3D) -> PkTrack
     ensures { result ≡ track_to t }
 {
-    let filter = t.filter;
-    let sensors = t.contributing_sensors;
     let life = t.lifecycle;
-    let state = life.state;
     let last_observation = life.last_observation;
     let last_counted = life.last_counted;
     let class = t.class_label;
@@ -78,14 +73,14 @@ pub fn track_to(t: Track3D) -> PkTrack
     let last_sensor = t.last_update_sensor;
     PkTrack {
         id: t.id,
-        filter,
+        filter: t.filter,
         created_at: life.created_at,
         last_observation: last_observation.unwrap_or(0),
         last_counted: last_counted.unwrap_or(0),
         state_timestamp: t.state_timestamp,
         prior_confidence: flags::the_confidence(prior),
-        sensors,
-        lifecycle: flags::life_to(state),
+        sensors: t.contributing_sensors,
+        lifecycle: flags::life_to(life.state),
         has_last_observation: flags::flag(last_observation),
         has_last_counted: flags::flag(last_counted),
         observation_times: life.observation_times,

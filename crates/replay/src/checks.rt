@@ -1,5 +1,5 @@
 // Settings, by calls.
-use super::lives::count_of;
+use super::lives::present;
 use lifecycle::LifecycleConfig;
 use settings::Cartesian3DTrackerConfig;
 use settings::bad_field::BadField;
@@ -7,7 +7,7 @@ use settings::frame::FrameName;
 use std::io;
 use wire::floats::{bits_of, number_of};
 use wire::signs::{bits, signed};
-use wire::{Line, names};
+use wire::{Line, low_half, names};
 
 // The fields in their order, one number each, but that a frame is its length and four numbers of eight bytes.
 #[derive(Clone, Copy)]
@@ -28,51 +28,36 @@ fn frame_of(numbers: [u64; 21]) -> FrameName {
 
 fn lifecycle_of(numbers: [u64; 21]) -> LifecycleConfig {
     LifecycleConfig {
-        confirm_min_observation_times: count_of(numbers[0]),
+        confirm_min_observation_times: low_half(numbers[0]),
         tentative_timeout_ns: signed(numbers[1]),
         confirmed_to_lost_ns: signed(numbers[2]),
         lost_to_delete_ns: signed(numbers[3]),
     }
 }
 
-fn f64_of(set: bool, b: u64) -> Option<f64> {
-    if set { Some(number_of(b)) } else { None }
-}
-
-fn i64_of(set: bool, b: u64) -> Option<i64> {
-    if set { Some(signed(b)) } else { None }
-}
-
-fn u32_of(set: bool, n: u64) -> Option<u32> {
-    if set { Some(count_of(n)) } else { None }
-}
-
 // The settings, given which optional fields are set: a binary digit each, the first the lowest.
 fn settings_of(numbers: [u64; 21], set: u64) -> Cartesian3DTrackerConfig {
     Cartesian3DTrackerConfig {
         lifecycle: lifecycle_of(numbers),
-        new_track_score_threshold: f64_of(set % 2 == 1, numbers[4]),
+        new_track_score_threshold: (set % 2 == 1).then_some(number_of(numbers[4])),
         max_contributing_sensors: numbers[5] as usize,
         frame_id: frame_of(numbers),
         accel_spectral_density: number_of(numbers[11]),
         initial_velocity_variance: number_of(numbers[12]),
         gate_squared_mahalanobis: number_of(numbers[13]),
         class_prior_penalty: number_of(numbers[14]),
-        recent_track_window_ns: i64_of(set / 2 % 2 == 1, numbers[15]),
-        min_birth_distance_m: f64_of(set / 4 % 2 == 1, numbers[16]),
-        birth_persistence: u32_of(set / 8 % 2 == 1, numbers[17]),
+        recent_track_window_ns: (set / 2 % 2 == 1).then_some(signed(numbers[15])),
+        min_birth_distance_m: (set / 4 % 2 == 1).then_some(number_of(numbers[16])),
+        birth_persistence: (set / 8 % 2 == 1).then_some(low_half(numbers[17])),
         birth_candidate_radius_m: number_of(numbers[18]),
         birth_candidate_timeout_ns: signed(numbers[19]),
-        velocity_measurement_std: f64_of(set / 16 % 2 == 1, numbers[20]),
+        velocity_measurement_std: (set / 16 % 2 == 1).then_some(number_of(numbers[20])),
     }
 }
 
 // The number of the first bad field, 0 where there is none.
 fn field_of(v: Result<(), BadField>) -> u64 {
-    match v {
-        Ok(()) => 0,
-        Err(field) => u64::from(u32::from(field)),
-    }
+    v.err().map_or(0, |field| u64::from(u32::from(field)))
 }
 
 // Three numbers into the places from `place` on.
@@ -101,48 +86,6 @@ pub fn run(rt: &impl Print, l: Loaded, line: Line) -> io::Result<Loaded> {
     }
 }
 
-fn bits_of_f64(x: Option<f64>) -> u64 {
-    match x {
-        None => 0,
-        Some(v) => bits_of(v),
-    }
-}
-
-fn bits_of_i64(x: Option<i64>) -> u64 {
-    match x {
-        None => 0,
-        Some(v) => bits(v),
-    }
-}
-
-fn bits_of_u32(x: Option<u32>) -> u64 {
-    match x {
-        None => 0,
-        Some(v) => v as u64,
-    }
-}
-
-fn set_f64(x: Option<f64>) -> u64 {
-    match x {
-        None => 0,
-        Some(_) => 1,
-    }
-}
-
-fn set_i64(x: Option<i64>) -> u64 {
-    match x {
-        None => 0,
-        Some(_) => 1,
-    }
-}
-
-fn set_u32(x: Option<u32>) -> u64 {
-    match x {
-        None => 0,
-        Some(_) => 1,
-    }
-}
-
 // Writes settings in six lines: the numbers, and which optional fields are set.
 fn write_settings(rt: &impl Print, c: Cartesian3DTrackerConfig) -> io::Result<()> {
     write_common(rt, c)?;
@@ -161,7 +104,7 @@ fn write_common(rt: &impl Print, c: Cartesian3DTrackerConfig) -> io::Result<()> 
     ];
     wire::write(rt, b'Z', times)?;
     let frame = [
-        bits_of_f64(c.new_track_score_threshold),
+        c.new_track_score_threshold.map_or(0, bits_of),
         c.max_contributing_sensors as u64,
         c.frame_id.length as u64,
         first,
@@ -173,25 +116,25 @@ fn write_common(rt: &impl Print, c: Cartesian3DTrackerConfig) -> io::Result<()> 
 
 // The fields behind the frame's name but one, and which are set.
 fn write_tracker(rt: &impl Print, c: Cartesian3DTrackerConfig) -> io::Result<()> {
-    let set = set_f64(c.new_track_score_threshold) % 2
-        + set_i64(c.recent_track_window_ns) % 2 * 2
-        + set_f64(c.min_birth_distance_m) % 2 * 4
-        + set_u32(c.birth_persistence) % 2 * 8
-        + set_f64(c.velocity_measurement_std) % 2 * 16;
+    let set = present(c.new_track_score_threshold)
+        + present(c.recent_track_window_ns) * 2
+        + present(c.min_birth_distance_m) * 4
+        + present(c.birth_persistence) * 8
+        + present(c.velocity_measurement_std) * 16;
     let pairing = [
         bits_of(c.initial_velocity_variance),
         bits_of(c.gate_squared_mahalanobis),
         bits_of(c.class_prior_penalty),
-        bits_of_i64(c.recent_track_window_ns),
+        c.recent_track_window_ns.map_or(0, bits),
     ];
     wire::write(rt, b'Z', pairing)?;
     let births = [
-        bits_of_f64(c.min_birth_distance_m),
-        bits_of_u32(c.birth_persistence),
+        c.min_birth_distance_m.map_or(0, bits_of),
+        c.birth_persistence.map_or(0, u64::from),
         bits_of(c.birth_candidate_radius_m),
         bits(c.birth_candidate_timeout_ns),
     ];
     wire::write(rt, b'Z', births)?;
-    let deviation = bits_of_f64(c.velocity_measurement_std);
+    let deviation = c.velocity_measurement_std.map_or(0, bits_of);
     wire::write(rt, b'Z', [deviation, set, 0, 0])
 }

@@ -28,12 +28,7 @@ pub fn new() -> Filters {
 }
 
 pub fn code_of(why: Refusal) -> u64 {
-    match why {
-        Refusal::NonFiniteValue => 5,
-        Refusal::NotSymmetric => 6,
-        Refusal::NotPositiveDefinite => 7,
-        Refusal::NonFiniteResult => 9,
-    }
+    u64::from(u32::from(types::refusal::Refusal::from(why)))
 }
 
 // Some of the numbers, from `from` on.
@@ -47,14 +42,10 @@ fn part<const N: usize>(numbers: &[f64; 57], from: usize) -> [f64; N]
 
 // The last three.
 fn velocity_of(numbers: [f64; 57]) -> Option<PlanarVelocity> {
-    if numbers[56] > 0.0 {
-        Some(PlanarVelocity {
-            x: numbers[54],
-            y: numbers[55],
-        })
-    } else {
-        None
-    }
+    (numbers[56] > 0.0).then_some(PlanarVelocity {
+        x: numbers[54],
+        y: numbers[55],
+    })
 }
 
 // Writes a filter in eleven lines: its state, its covariance, zeros after them.
@@ -76,10 +67,7 @@ fn with_answer(
     r: Filters,
     answer: Result<KalmanFilter, Refusal>,
 ) -> io::Result<Filters> {
-    let code = match answer {
-        Ok(_) => 0,
-        Err(why) => code_of(why),
-    };
+    let code = answer.err().map_or(0, code_of);
     let filter = answer.unwrap_or(r.filter);
     wire::write(rt, b'F', [code, 0, 0, 0])?;
     write_filter(rt, filter)?;

@@ -1,9 +1,11 @@
 // Lifecycles and lists of sensors, by calls.
+ghost use Rattle.std.specs.Prelude.{◌≤◌};
+
 use lifecycle::sensors::Sensors;
 use lifecycle::{LifecycleConfig, TrackLifecycle, TrackLifecycleState, Verdict};
 use std::io;
-use wire::Line;
 use wire::signs::{bits, signed};
+use wire::{Line, low_half};
 
 #[derive(Clone, Copy)]
 pub struct Lives {
@@ -39,33 +41,24 @@ fn letter_of(state: TrackLifecycleState) -> u8 {
     }
 }
 
-fn time_of(o: Option<i64>) -> u64 {
-    match o {
-        None => 0,
-        Some(t) => bits(t),
-    }
-}
-
-// 1 where there is a time.
-fn present(o: Option<i64>) -> u64 {
-    match o {
-        None => 0,
-        Some(_) => 1,
-    }
+// 1 where there is a value.
+pub fn present<T: Copy>(o: Option<T>) -> u64
+    ensures { result ≤ 1 }
+{
+    u64::from(o.is_some())
 }
 
 fn write_life(rt: &impl Print, l: TrackLifecycle) -> io::Result<()> {
-    let state = l.state;
     let seen = l.last_observation;
     let counted = l.last_counted;
-    let flags = present(seen) % 2 * 4294967296 + present(counted) % 2 * 8589934592;
+    let flags = present(seen) * 4294967296 + present(counted) * 8589934592;
     wire::write(
         rt,
-        letter_of(state),
+        letter_of(l.state),
         [
             bits(l.created_at),
-            time_of(seen),
-            time_of(counted),
+            seen.map_or(0, bits),
+            counted.map_or(0, bits),
             (l.observation_times as u64) + flags,
         ],
     )
@@ -107,17 +100,12 @@ fn with_sensors(rt: &impl Print, r: Lives, sensors: Sensors, limit: usize) -> io
     })
 }
 
-// A number of 32 bits, the lower ones of a word.
-pub fn count_of(n: u64) -> u32 {
-    (n % 4294967296) as u32
-}
-
 // One call on the life.
 fn run_life(rt: &impl Print, r: Lives, letter: u8, first: u64) -> io::Result<Lives> {
     let life = match letter {
         b'N' => TrackLifecycle::new(signed(first)),
         b'R' => lifecycle::registered(r.life, signed(first), r.config),
-        b'C' => lifecycle::credited(r.life, count_of(first), r.config),
+        b'C' => lifecycle::credited(r.life, low_half(first), r.config),
         _ => lifecycle::aged(r.life, signed(first), r.config).lifecycle,
     };
     with_life(rt, r, life)
@@ -129,7 +117,7 @@ pub fn run(rt: &impl Print, r: Lives, line: Line) -> io::Result<Lives> {
     match line.letter {
         b'G' => {
             let config = LifecycleConfig {
-                confirm_min_observation_times: count_of(fourth),
+                confirm_min_observation_times: low_half(fourth),
                 tentative_timeout_ns: signed(first),
                 confirmed_to_lost_ns: signed(second),
                 lost_to_delete_ns: signed(third),
@@ -144,7 +132,7 @@ pub fn run(rt: &impl Print, r: Lives, line: Line) -> io::Result<Lives> {
             with_sensors(rt, r, empty, first as usize)
         }
         b'S' => {
-            let more = r.sensors.record_sensor(count_of(first), r.limit);
+            let more = r.sensors.record_sensor(low_half(first), r.limit);
             with_sensors(rt, r, more, r.limit)
         }
         _ => run_life(rt, r, line.letter, first),

@@ -17,34 +17,22 @@ pub struct Seen {
 
 // The class in a number's lowest 21 bits.
 fn class_of(labels: u64) -> Option<u32> {
-    let digit = labels % 2097152;
-    if digit == 0 {
-        None
-    } else {
-        Some((digit - 1) as u32)
-    }
+    ((labels % 2097152) as u32).checked_sub(1)
 }
 
 fn prior_of(label: Option<u32>, confidence: f64) -> Option<ClassPrior> {
-    match label {
-        None => None,
-        Some(label) => Some(ClassPrior { label, confidence }),
-    }
+    label.map(|label| ClassPrior { label, confidence })
 }
 
 fn score_of(scored: u64, score: f64) -> Option<f64> {
-    if scored == 0 { None } else { Some(score) }
-}
-
-fn flag(x: bool) -> u64 {
-    if x { 1 } else { 0 }
+    (scored != 0).then_some(score)
 }
 
 fn write_check(rt: &impl Print, d: Detection) -> io::Result<()> {
-    match detections::validate_detection(d) {
-        Ok(()) => wire::write(rt, b'o', [0, 0, 0, 0]),
-        Err(why) => wire::write(rt, b'o', [super::filters::code_of(why), 0, 0, 0]),
-    }
+    let code = detections::validate_detection(d)
+        .err()
+        .map_or(0, super::filters::code_of);
+    wire::write(rt, b'o', [code, 0, 0, 0])
 }
 
 fn code_of(rule: Rule) -> u64 {
@@ -92,9 +80,9 @@ fn write_birth(
         rt,
         b'b',
         [
-            flag(detections::births::is_score_below(d.score, threshold)),
+            u64::from(detections::births::is_score_below(d.score, threshold)),
             bits_of(detections::births::distance(place, z)),
-            flag(detections::births::is_nearer(place, z, radius)),
+            u64::from(detections::births::is_nearer(place, z, radius)),
             0,
         ],
     )

@@ -7,7 +7,7 @@ ghost use Rattle.tables.specs.Sequences.{not_before, last_of, over, room_for, in
 use types::MAX_SEQUENCES;
 use types::tracker::{Cartesian3DTracker, SensorSequence};
 
-// The table by itself, for whoever holds it in another state.
+// The table by itself, for whoever holds it in another state. An array and a count, since there is no heap (01: "fixed arrays with a length").
 #[derive(Clone, Copy)]
 pub struct Sequences {
     pub entries: [SensorSequence; MAX_SEQUENCES],
@@ -15,7 +15,7 @@ pub struct Sequences {
 }
 
 impl Sequences {
-    // Where the first sensor stands that isn't before this one.
+    // Where the first sensor stands that isn't before this one. Not by halves: the table may be anything, and only calls keep it ascending.
     fn seat_of(&self, sensor: u32) -> Option<usize>
         ensures { result ≡ first_at (not_before sensor) (take self.now.count self.now.entries) }
     {

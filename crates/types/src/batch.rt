@@ -13,14 +13,15 @@ pub struct ObservationBatch3D {
     pub count: usize,
 }
 
-// What became of a detection.
+// What became of a detection; the numbers are those of the C record.
 #[derive(Clone, Copy)]
 pub enum ObservationOutcome {
-    Updated,
-    Spawned,
-    Unmatched,
+    Updated = 1,
+    Spawned = 2,
+    Unmatched = 0,
 }
 
+// What the report says of one detection. The outcome says which of `track_id` and `cost` is there; they are fields of their own, no parts of the outcome, as in the Rust's types.rs, from which 01 takes the record, and in the C record.
 #[derive(Clone, Copy)]
 pub struct ObservationAssociation {
     pub observation_index: usize,

@@ -1,6 +1,6 @@
 // A track, a setter for each part of it that calls change, and what is shown of it.
 ghost use Rattle.std.specs.Prelude.{◌≡◌};
-ghost use Rattle.types.specs.Track.{with_filter, with_lifecycle, with_label, with_prior, with_timestamp, with_sensors, with_mark, snapshot_of};
+ghost use Rattle.types.specs.Track.{with_filter, with_label, with_prior, with_timestamp, with_sensors, with_mark, snapshot_of};
 
 use detections::pairs::ClassPrior;
 use filter::KalmanFilter;
@@ -40,7 +40,7 @@ pub struct Track3DSnapshot {
     pub covariance: [f64; 36],
 }
 
-// What is shown of all tracks, in the table's order: the first `count` places.
+// What is shown of all tracks, in the table's order: the first `count` places. An array and a count, since there is no heap (01: "fixed arrays with a length").
 #[derive(Clone, Copy)]
 pub struct Snapshots {
     pub items: [Track3DSnapshot; super::MAX_TRACKS],
@@ -51,12 +51,6 @@ pub fn with_filter(t: Track3D, filter: KalmanFilter) -> Track3D
     ensures { result ≡ with_filter filter t }
 {
     Track3D { filter, ..t }
-}
-
-pub fn with_lifecycle(t: Track3D, lifecycle: TrackLifecycle) -> Track3D
-    ensures { result ≡ with_lifecycle lifecycle t }
-{
-    Track3D { lifecycle, ..t }
 }
 
 pub fn with_state_timestamp(t: Track3D, timestamp: i64) -> Track3D
@@ -111,24 +105,18 @@ pub fn snapshot_of(t: Track3D) -> Track3DSnapshot
     ensures { result ≡ snapshot_of t }
 {
     let life = t.lifecycle;
-    let lifecycle = life.state;
-    let last_observation_timestamp = life.last_observation;
-    let last_update_sensor = t.last_update_sensor;
-    let contributing_sensors = t.contributing_sensors;
-    let class_label = t.class_label;
-    let class_prior = t.class_prior;
-    let filter = t.filter;
-    let state = filter.state;
-    let covariance = filter.covariance;
+    // Arrays by `let`: the check takes no field of an array straight from another's.
+    let state = t.filter.state;
+    let covariance = t.filter.covariance;
     Track3DSnapshot {
         track_id: t.id,
-        lifecycle,
+        lifecycle: life.state,
         state_timestamp: t.state_timestamp,
-        last_observation_timestamp,
-        last_update_sensor,
-        contributing_sensors,
-        class_label,
-        class_prior,
+        last_observation_timestamp: life.last_observation,
+        last_update_sensor: t.last_update_sensor,
+        contributing_sensors: t.contributing_sensors,
+        class_label: t.class_label,
+        class_prior: t.class_prior,
         updated_in_last_batch: t.updated_this_batch,
         observation_times_count: life.observation_times,
         position: [state[0], state[1], state[2]],

@@ -2,7 +2,7 @@
 // calls read and write.
 #![tactic(auto)]
 
-ghost use Rattle.std.specs.Prelude.{◌<◌, ◌≤◌};
+ghost use Rattle.std.specs.Prelude.{◌≡◌, ◌<◌, ◌≤◌, ◌%◌};
 
 pub mod digests;
 pub mod floats;
@@ -91,4 +91,11 @@ pub fn at_most(n: u64, limit: usize) -> usize
     ensures { result ≤ limit }
 {
     n.min(limit as u64) as usize
+}
+
+// A number of 32 bits, the lower ones of a word.
+pub fn low_half(n: u64) -> u32
+    ensures { result ≡ n % 4294967296 }
+{
+    (n % 4294967296) as u32
 }

@@ -57,7 +57,7 @@ impl<const N: usize> Words<N> {
     pub fn digest(&self) -> u64
         ensures { result ≡ digest_of (take self.now.len self.now.words) }
     {
-        digests::digest_of(&self.words, self.len)
+        digests::digest_all(&self.words[..self.len])
     }
 
     // Writes the words that are taken, four to a line, with what stands in the rest of the last line.
