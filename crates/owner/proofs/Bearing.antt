@@ -1,5 +1,5 @@
 -- The loop over a batch's detections: what the births of the first j columns left in the record's tracks, in the candidates and in what is told. Assumes nothing.
-use Rattle.std.specs.Prelude.{None, Some}
+use Rattle.std.specs.Prelude.{None, Option, Some}
 use mathlib.Core.Path.{◌≡◌, refl, sym, ap, ◌∙◌}
 use mathlib.Core.Bool.{Bool, true, false}
 use mathlib.Core.List.{List, [], ◌∷◌, ◌++◌, map}
@@ -66,7 +66,7 @@ bearing_start {now = now} x {n = n} us {kept = kept} e h =
       slots = refl;
     }
 
-module _ {config : Cartesian3DTrackerConfig} {sensor : ℕ} {now : ℤ} {places : List Vector} {count : ℕ} (ps : List Pair) (ds : List Detection) {start : State} {l m : List PkTrack} {n id : ℕ} {kept : Candidates} {told : List ObservationAssociation} {j : ℕ}
+module _ {config : Cartesian3DTrackerConfig} {sensor : ℕ} {now : ℤ} {places : List Vector} {count : ℕ} (ps : List (Option Pair)) (ds : List Detection) {start : State} {l m : List PkTrack} {n id : ℕ} {kept : Candidates} {told : List ObservationAssociation} {j : ℕ}
     (w : Bearing config sensor now places (columns_from count ps ds) start l m n id kept told j) (few : count ≤ 64) (sp : length ps ≡ 64) (sd : length ds ≡ 64) where
   abbrev cols : List Column
   cols = columns_from count ps ds
@@ -81,7 +81,7 @@ module _ {config : Cartesian3DTrackerConfig} {sensor : ℕ} {now : ℤ} {places 
   bearing_end h = ap (λ (k : List Column). births_of config sensor now places k start) (sym (take_all j cols (omega (arith, long, h)))) ∙ w.gives
 
   module _ (h : j < count) where
-    abbrev p : Pair
+    abbrev p : Option Pair
     p = get_or ps j no_pair
 
     abbrev d : Detection
@@ -114,14 +114,14 @@ module _ {config : Cartesian3DTrackerConfig} {sensor : ℕ} {now : ℤ} {places 
               ∙ told_more w.so_far.fates b.fate j fates (omega (arith, few, h));
         }
 
-    pub bearing_taken : {x : ObservationAssociation} → p.taken ≡ true → x ≡ association_of j (updated (record { track = p.track; cost = p.cost })) → Bears m n id kept (set told j x) (j + 1)
+    pub bearing_taken : {y : Pair} {x : ObservationAssociation} → p ≡ Some y → x ≡ association_of j (updated (record { track = y.track; cost = y.cost })) → Bears m n id kept (set told j x) (j + 1)
     unfolding born_unless_taken
-    bearing_taken q z =
-        let t : Match = record { track = p.track; cost = p.cost } in
+    bearing_taken {y} q z =
+        let t : Match = record { track = y.track; cost = y.cost } in
         let e : column.pair ≡ Some t = ap (λ (v : Column). v.pair) column_is ∙ rw q in
         more {b = record { state = w.so_far.state; fate = updated t }} (rw e) w.tracks w.count w.next w.candidates z
 
-    module _ (free : p.taken ≡ false) where
+    module _ (free : p ≡ None) where
       abbrev one : Reply One
       one = one_of config sensor now (low_score config d) (near_confirmed config places d) d n id (list_of kept)
 

@@ -91,8 +91,7 @@ pub fn process_batch(mut t: PkTracker, batch: ObservationBatch3D) -> Result<Ran,
     let mut associations = [blank_association; MAX_OBSERVATIONS];
     let mut id = t.next_track_id;
     for j in 0..count {
-        let p = pairs[j];
-        if p.taken {
+        if let Some(p) = pairs[j] {
             associations[j] = birth_stage::paired(j, p.track, p.cost);
             continue;
         }

@@ -106,9 +106,8 @@ pub fn predict_to(t: Cartesian3DTracker, timestamp: i64) -> Answered
 fn carry_out(t: Cartesian3DTracker, batch: ObservationBatch3D) -> Result<Finished, Refusal>
     ensures { reply_by number_of result ≡ finished_on t (process_reply t.config (state_of t) batch) }
 {
-    let config = t.config;
     batches::validate_batch(
-        config.frame_id,
+        t.config.frame_id,
         t.last_time,
         t.sequences,
         t.sequence_count,
@@ -144,8 +143,8 @@ pub fn snapshots(t: Cartesian3DTracker) -> Snapshots
     let n = tables::taken(t.track_count, MAX_TRACKS);
     let blank = types::track::snapshot_of(types::tracker::blank_track());
     let mut items = [blank; MAX_TRACKS];
-    for i in 0..n {
-        items[i] = types::track::snapshot_of(t.tracks[i]);
+    for (i, x) in t.tracks[..n].iter().enumerate() {
+        items[i] = types::track::snapshot_of(*x);
     }
     Snapshots { items, count: n }
 }

@@ -1,7 +1,8 @@
 -- The loop keeps `Shown`: the snapshots of the tracks before i stand in front of the blanks.
 use mathlib.Core.Path.{ap, ◌∙◌}
 use Prim.Native.Nat.{◌<◌}
-use lib.ListN.{length-set}
+use lib.ListN.{length-set, length-take}
+use lib.Seq.{get_or-take}
 use native.Mathlib.Omega.{arith}
 use borrow.Author.Rules.{rules}
 use Rattle.lists.proofs.Laying.{length_mapped}
@@ -13,27 +14,25 @@ use Rattle.tracker.proofs.snapshots.Goals as goal
 
 pub loop-i-init : goal.loop-i-init
 loop-i-init c =
-    let blank = c.snapshot_of-blank.ensures ∙ ap snapshot_of c.blank_track.ensures in (
-      search rules,
-      omega (arith, c.taken-n.ensures),
-      search (rules, length_mapped),
-      search rules,
-      rw blank (filled_start snapshot_of c.args.t.tracks blanks),
-    )
+    let blank = c.snapshot_of-blank.ensures ∙ ap snapshot_of c.blank_track.ensures in
+    (omega (arith, c.taken-n.ensures), search (rules, length_mapped), search rules, rw blank (filled_start snapshot_of c.args.t.tracks blanks))
 
 pub loop-i-preserved : goal.loop-i-preserved
 loop-i-preserved c =
-    let v = c.loop-i.invariant in (
-      search rules,
+    let v = c.loop-i.invariant in
+    let l = c.args.t.tracks in
+    let n = c.taken-n in
+    let i = c.loop-i.i in
+    let among : i < n.result = omega (arith, c.loop-i-test.true, length-take n.result l) in
+    let few : i < 64 = omega (arith, among, v.0) in (
+      v.0,
       v.1,
-      v.2,
-      length-set c.loop-i.items c.loop-i.i _ ∙ v.3,
-      (let w : c.loop-i.i < 64 = omega (arith, v.1) in
-          let g = filled_more snapshot_of c.args.t.tracks blanks c.loop-i.items c.loop-i.i no_track v.4 (omega (arith, v.1, v.2)) w in
-          rw c.snapshot_of.ensures g),
+      length-set c.loop-i.items i _ ∙ v.2,
+      rw (c.snapshot_of.ensures, get_or-take n.result l i no_track among) (filled_more snapshot_of l blanks c.loop-i.items i no_track v.3 (omega (arith, v.1, few)) few),
     )
 
 pub returns : goal.returns
 returns c =
     let v = c.loop-i.invariant in
-    shown_end c.args.t c.taken-n.result c.loop-i.i c.loop-i.items v.2 c.taken-n.ensures (omega (arith, v.0, c.loop-i-test.false)) v.4
+    let n = c.taken-n in
+    shown_end c.args.t n.result c.loop-i.i c.loop-i.items v.1 n.ensures (omega (arith, c.loop-i-test.false, c.loop-i.auto.i-end, length-take n.result c.args.t.tracks, v.0, v.1)) v.3

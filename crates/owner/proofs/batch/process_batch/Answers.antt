@@ -138,14 +138,14 @@ loop-j-init c =
     let u = corrected_all v.7 c.update_of-update.ensures (omega (arith, v.0, c.loop-k-test.false)) v.4 v.2 v.5 v.6 in
     (search rules, count_few _ _ v.7.moved.checked, v.2, refl, rw c.alone-blank_association.ensures (bearing_start c.loop-k.t _ u.stored (omega (arith, v.1, v.2))), aged_by _ _ u c.in_ok-kept.ensures)
 
-pub loop-j-preserved-then-p : goal.loop-j-preserved-then-p
-loop-j-preserved-then-p c =
+pub loop-j-preserved-in-Some-pairs : goal.loop-j-preserved-in-Some-pairs
+loop-j-preserved-in-Some-pairs c =
     let v = c.loop-j.invariant in (
       search rules,
       v.1,
       v.2,
       v.3,
-      bearing_taken _ _ v.4 v.1 (search (rules, length_mapped)) v.5.corrected.mated.moved.checked.seen c.loop-j-test.true c.if-p.true c.paired.ensures,
+      bearing_taken _ _ v.4 v.1 (search (rules, length_mapped)) v.5.corrected.mated.moved.checked.seen c.loop-j-test.true c.in-Some-pairs.is c.paired.ensures,
       v.5,
     )
 
@@ -153,7 +153,7 @@ pub returns-in_err-x : goal.returns-in_err-x
 returns-in_err-x c =
     let p = err_from_is_err_and c.from_residual-in_err-x.result c.from_residual-in_err-x.ensures.1 in
     let v = c.loop-j.invariant in
-    rw (p.1, p.2) (births_refused _ _ v.5 (bearing_stops _ _ v.4 v.1 (search (rules, length_mapped)) v.5.corrected.mated.moved.checked.seen c.loop-j-test.true c.if-p.false c.in_err-x.ensures))
+    rw (p.1, p.2) (births_refused _ _ v.5 (bearing_stops _ _ v.4 v.1 (search (rules, length_mapped)) v.5.corrected.mated.moved.checked.seen c.loop-j-test.true c.in_default-pairs.is c.in_err-x.ensures))
 
 pub loop-j-preserved-in_default-begun : goal.loop-j-preserved-in_default-begun
 loop-j-preserved-in_default-begun c =
@@ -162,7 +162,7 @@ loop-j-preserved-in_default-begun c =
       v.1,
       v.2,
       v.3,
-      bearing_alone _ _ v.4 v.1 (search (rules, length_mapped)) v.5.corrected.mated.moved.checked.seen c.loop-j-test.true c.if-p.false c.in_ok-x.ensures c.in_default-begun.is c.alone.ensures,
+      bearing_alone _ _ v.4 v.1 (search (rules, length_mapped)) v.5.corrected.mated.moved.checked.seen c.loop-j-test.true c.in_default-pairs.is c.in_ok-x.ensures c.in_default-begun.is c.alone.ensures,
       v.5,
     )
 
@@ -186,7 +186,7 @@ loop-j-preserved c =
       v.1,
       length-set c.loop-j.t.tracks c.loop-j.n _ ∙ v.2,
       ap (λ (x : PkTracker). with_pk_tracks x (set c.loop-j.t.tracks c.loop-j.n c.track_to-in-loop-j.result)) v.3,
-      rw c.track_to-in-loop-j.ensures (bearing_begun _ _ v.4 v.1 (search (rules, length_mapped)) v.5.corrected.mated.moved.checked.seen c.loop-j-test.true c.if-p.false c.in_ok-x.ensures c.in-Some-begun.is (omega (arith, room.0, v.5.corrected.size)) c.begun.ensures),
+      rw c.track_to-in-loop-j.ensures (bearing_begun _ _ v.4 v.1 (search (rules, length_mapped)) v.5.corrected.mated.moved.checked.seen c.loop-j-test.true c.in_default-pairs.is c.in_ok-x.ensures c.in-Some-begun.is (omega (arith, room.0, v.5.corrected.size)) c.begun.ensures),
       v.5,
     )
 
