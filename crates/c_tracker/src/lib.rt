@@ -17,7 +17,7 @@ use settings::bad_field::BadField;
 use types::refusal::Refusal;
 use types::tracker::Cartesian3DTracker;
 
-// The tracker after a call, and 0 or the number of the refusal.
+// The tracker after a call, and 0 or the number of the refusal. No `Result`, since a C program gets the record back either way (01: "state by value, the old one given back").
 #[derive(Clone, Copy)]
 pub struct Answer {
     pub tracker: PkTracker,
@@ -35,10 +35,7 @@ pub struct Processed {
 fn code_of(outcome: Result<(), Refusal>) -> u32
     ensures { result ≡ code_of (reply_of outcome) }
 {
-    match outcome {
-        Ok(()) => 0,
-        Err(why) => u32::from(why),
-    }
+    outcome.err().map_or(0, u32::from)
 }
 
 // What the C program holds after a call that left u: where it was refused, what it held before.
@@ -68,10 +65,7 @@ fn validate(s: PkSettings) -> Result<(), BadField>
 pub fn settings_check(s: PkSettings) -> u32
     ensures { result ≡ check_answer s }
 {
-    match validate(s) {
-        Ok(()) => 0,
-        Err(field) => u32::from(field),
-    }
+    validate(s).err().map_or(0, u32::from)
 }
 
 // A tracker that has seen nothing, where the settings may be used.
@@ -109,9 +103,8 @@ pub fn set_class_prior(t: PkTracker, id: u64, label: u32, confidence: f64) -> An
 {
     let answer = tracker::set_class_prior(records::tracker::tracker_of(t), id, label, confidence);
     let outcome = answer.outcome;
-    let after = answer.tracker;
     Answer {
-        tracker: settle(t, outcome, after),
+        tracker: settle(t, outcome, answer.tracker),
         code: code_of(outcome),
     }
 }
@@ -121,14 +114,10 @@ pub fn process_batch(t: PkTracker, b: PkBatch) -> Processed
     ensures { (result ≡ batch_answer t b) × Heeded (batch_on t b) }
 {
     match owner::batch::process_batch(t, batch_records::batch_of(b)) {
-        Ok(ran) => {
-            let tracker = ran.tracker;
-            let report = ran.report;
-            Processed {
-                tracker,
-                report: batch_records::report_to(0, report),
-            }
-        }
+        Ok(ran) => Processed {
+            tracker: ran.tracker,
+            report: batch_records::report_to(0, ran.report),
+        },
         Err(why) => Processed {
             tracker: t,
             report: batch_records::report_to(u32::from(why), stages::blank_report()),

@@ -1,11 +1,10 @@
 // A batch of the words that are loaded.
-use super::config::u32_of;
 use super::loads::Loads;
 use batch_records::{PkBatch, PkDetection};
 use settings::frame::FrameName;
-use wire::Line;
 use wire::floats::number_of;
 use wire::signs::signed;
+use wire::{Line, low_half};
 
 fn covariance_of(w: &[u64; 20]) -> [f64; 9] {
     let mut covariance = [0.0; 9];
@@ -24,10 +23,10 @@ fn detection_of(w: &[u64; 20]) -> PkDetection {
         covariance,
         velocity,
         score: number_of(w[14]),
-        has_velocity: u32_of(w[15]),
-        has_score: u32_of(w[16]),
-        has_class: u32_of(w[17]),
-        class_label: u32_of(w[18]),
+        has_velocity: low_half(w[15]),
+        has_score: low_half(w[16]),
+        has_class: low_half(w[17]),
+        class_label: low_half(w[18]),
     }
 }
 
@@ -52,7 +51,7 @@ pub fn batch_of(l: &Loads, line: Line) -> PkBatch {
         sequence,
         timestamp: signed(time),
         frame,
-        sensor_id: u32_of(sensor),
+        sensor_id: low_half(sensor),
         reserved: 0,
         count: (sizes % 4294967296) as usize,
         detections,

@@ -3,16 +3,12 @@ use lifecycle::LifecycleConfig;
 use records::config::PkSettings;
 use settings::frame::FrameName;
 use wire::floats::number_of;
+use wire::low_half;
 use wire::signs::signed;
-
-// A number of 32 bits, the lower ones of a word.
-pub fn u32_of(word: u64) -> u32 {
-    (word % 4294967296) as u32
-}
 
 fn lifecycle_of(w: &[u64; 28]) -> LifecycleConfig {
     LifecycleConfig {
-        confirm_min_observation_times: u32_of(w[0]),
+        confirm_min_observation_times: low_half(w[0]),
         tentative_timeout_ns: signed(w[1]),
         confirmed_to_lost_ns: signed(w[2]),
         lost_to_delete_ns: signed(w[3]),
@@ -42,11 +38,11 @@ pub fn settings_of(w: &[u64; 28]) -> PkSettings {
         recent_track_window_ns: signed(w[17]),
         min_birth_distance_m: number_of(w[18]),
         velocity_measurement_std: number_of(w[19]),
-        birth_persistence: u32_of(w[20]),
-        has_new_track_score_threshold: u32_of(w[21]),
-        has_recent_track_window: u32_of(w[22]),
-        has_min_birth_distance: u32_of(w[23]),
-        has_velocity_measurement_std: u32_of(w[24]),
-        has_birth_persistence: u32_of(w[25]),
+        birth_persistence: low_half(w[20]),
+        has_new_track_score_threshold: low_half(w[21]),
+        has_recent_track_window: low_half(w[22]),
+        has_min_birth_distance: low_half(w[23]),
+        has_velocity_measurement_std: low_half(w[24]),
+        has_birth_persistence: low_half(w[25]),
     }
 }

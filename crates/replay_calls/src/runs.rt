@@ -1,5 +1,4 @@
 // The calls on a tracker, and what is written of each. Each gives the tracker as it is left.
-use super::config::u32_of;
 use super::loads::Loads;
 use super::report::report_of;
 use super::state::state_of;
@@ -7,9 +6,9 @@ use batch_records::PkBatch;
 use records::config::PkSettings;
 use records::tracker::PkTracker;
 use std::io;
-use wire::Line;
 use wire::floats::number_of;
 use wire::signs::signed;
+use wire::{Line, low_half};
 
 // The digest of a state has the third place.
 fn write(rt: &impl Print, letter: u8, code: u32, report: u64, t: &PkTracker) -> io::Result<()> {
@@ -74,7 +73,7 @@ pub fn run(rt: &impl Print, t: PkTracker, l: &Loads, line: Line) -> io::Result<P
         b'n' => new(rt, t, super::config::settings_of(l.settings.all())),
         b'b' => process_batch(rt, t, super::batch::batch_of(l, line)),
         b'm' => predict_to(rt, t, signed(first)),
-        b'c' => set_class_prior(rt, t, first, u32_of(second), number_of(third)),
+        b'c' => set_class_prior(rt, t, first, low_half(second), number_of(third)),
         b'e' => {
             write_state(rt, &t)?;
             Ok(t)

@@ -1,11 +1,8 @@
 use mathlib.Core.Path.{sym}
+use borrow.Author.Rules.{rules}
 use Rattle.c_tracker.specs.Calls.{check_answer}
 use Rattle.c_tracker.proofs.settings_check.Goals as goal
 
-pub returns-in-Ok : goal.returns-in-Ok
+pub returns : goal.returns
 unfolding check_answer
-returns-in-Ok c = rw (sym c.validate.ensures, c.in-Ok.is)
-
-pub returns-in-Err : goal.returns-in-Err
-unfolding check_answer
-returns-in-Err c = rw (sym c.validate.ensures, c.in-Err.is) c.from.ensures
+returns c = rw (sym c.validate.ensures) (search rules)
