@@ -28,7 +28,7 @@ pub fn new() -> Filters {
 }
 
 pub fn code_of(why: Refusal) -> u64 {
-    u64::from(u32::from(types::refusal::Refusal::from(why)))
+    u64::from(u32::from(why))
 }
 
 // Some of the numbers, from `from` on.

@@ -1,7 +1,6 @@
 // Cost tables, loaded by some lines, and their assignments.
 use assignment::{Assignment, AssignmentError};
 use std::io;
-use types::refusal::Refusal;
 use wire::Line;
 use wire::floats::number_of;
 use wire::words::Words;
@@ -31,7 +30,7 @@ impl Costs {
 }
 
 fn code_of(why: AssignmentError) -> u64 {
-    u64::from(u32::from(Refusal::from(why)))
+    u64::from(u32::from(why))
 }
 
 // The first pairs, as row times 2^32 and column. Here and below `take` asks nothing of the count, of which a slice would ask that it is at most 64.
