@@ -33,8 +33,8 @@ returns-else-distance-radius c =
     let other = other_of a.x.last_seen a.time c.if-x-time.false in
     elim c.else-distance-radius.branch [
       | else-distance-radius-via-then-distance-radius+else-is_none_or w ↦
-        let n : a.best ≡ None → w.is_none_or.result ≡ true = λ k. search rules in
-        let h : (b : Near) → a.best ≡ Some b → w.is_none_or.result ≡ lt c.distance-distance.result b.distance = λ b k. search rules in
-        λ o q. passed_over a.radius a.time a.d a.at a.x a.best _ o other (rw z at w.if-distance-radius.true) n (rw z at h) w.if-is_none_or.false q
+          let n : a.best ≡ None → w.is_none_or.result ≡ true = λ k. search rules in
+          let h : (b : Near) → a.best ≡ Some b → w.is_none_or.result ≡ lt c.distance-distance.result b.distance = λ b k. search rules in
+          λ o q. passed_over a.radius a.time a.d a.at a.x a.best _ o other (rw z at w.if-distance-radius.true) n (rw z at h) w.if-is_none_or.false q
       | else-distance-radius-via-else-distance-radius w ↦ λ o q. too_far a.radius a.time a.d a.at a.x a.best o other (rw z at w.if-distance-radius.false) q
     ]
