@@ -8,7 +8,7 @@ use native.Mathlib.Omega.{arith}
 use lib.IntN.{ℤ}
 use lib.Ieee.{Float}
 use lib.ListN.{length, take, drop}
-use lib.Seq.{sets-eq, length-sets, take_at}
+use lib.Seq.{sets-eq, take_at}
 use Rattle.number.specs.Reply.{Reply, refused, given, and_then}
 use Rattle.kuhn_munkres.specs.Assignment.{rows_of}
 use Rattle.lists.specs.Each.{each}
@@ -19,7 +19,7 @@ use Rattle.types.specs.Refusals.{number_of, reply_of}
 use Rattle.calls.specs.Pairing.{assigned, cascaded}
 use Rattle.pairing.specs.declared.Row.{Row}
 use Rattle.pairing.specs.Rows.{recent_row}
-use Rattle.pairing.specs.Laid.{front, Laid}
+use Rattle.pairing.specs.Laid.{Laid}
 use Rattle.pairing.proofs.Ties.{laid_given, laid_refused}
 use Rattle.cascade.specs.Stages.{CascadeAnswer}
 use Rattle.matching.specs.Takers.{rows_paired, Takes}
