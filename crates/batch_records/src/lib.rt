@@ -2,12 +2,11 @@
 // a report's takes a number beside it. Arrays are named by `let` before they are parts of a record: the check takes none straight.
 #![tactic(auto)]
 
-ghost use Rattle.std.specs.Prelude.{◌≡◌, ◌<◌, map};
+ghost use Rattle.std.specs.Prelude.{◌≡◌, map};
 ghost use Rattle.batch_records.specs.Batches.{detection_of, batch_of, association_to, report_to};
 
 use detections::Detection;
 use settings::frame::FrameName;
-use std::array::from_fn;
 use types::batch::{BatchReport3D, ObservationAssociation, ObservationBatch3D};
 
 #[repr(C)]
@@ -74,14 +73,17 @@ pub fn detection_of(d: PkDetection) -> Detection
     }
 }
 
+// By index, here and for the associations: with `from_fn` a batch takes 24 KB of stack more, and no longer fits what the header says is enough (tried).
 fn detections_of(b: PkBatch) -> [Detection; 64]
     ensures { result ≡ map detection_of b.detections }
 {
-    from_fn(
-        |i| -> Detection
-            requires { i < 64 }
-        { detection_of(b.detections[i]) },
-    )
+    let first = b.detections[0];
+    let mut out = [detection_of(first); 64];
+    for i in 0..64 {
+        let x = b.detections[i];
+        out[i] = detection_of(x);
+    }
+    out
 }
 
 #[tactic(auto, unfolding(crate::specs::Batches::batch_of))]
@@ -119,11 +121,13 @@ pub fn association_to(a: ObservationAssociation) -> PkAssociation
 fn associations_to(r: BatchReport3D) -> [PkAssociation; 64]
     ensures { result ≡ map association_to r.associations }
 {
-    from_fn(
-        |i| -> PkAssociation
-            requires { i < 64 }
-        { association_to(r.associations[i]) },
-    )
+    let first = r.associations[0];
+    let mut out = [association_to(first); 64];
+    for i in 0..64 {
+        let x = r.associations[i];
+        out[i] = association_to(x);
+    }
+    out
 }
 
 #[tactic(auto, unfolding(crate::specs::Batches::report_to))]

@@ -1,17 +1,22 @@
-use Rattle.std.proofs.Common.{◌≡◌, rules, length, None}
+use mathlib.Core.Path.{sym, ◌∙◌}
+use Prim.Native.Nat.{◌-◌}
+use native.Mathlib.Omega.{arith}
+use borrow.Author.Rules.{rules}
 use Rattle.lists.proofs.Laying.{length_mapped}
-use Rattle.records.proofs.Made.{made}
-use Rattle.types.specs.declared.batch.ObservationAssociation.{ObservationAssociation}
-use Rattle.types.specs.declared.batch.ObservationOutcome.TheVariants.{Updated}
 use Rattle.batch_records.specs.Batches.{association_to}
+use Rattle.lists.proofs.Filling.{filled_start, filled_more, filled_all}
 use Rattle.batch_records.proofs.associations_to.Goals as goal
 
--- what code reads past the end
-abbrev no_association : ObservationAssociation
-no_association = record { observation_index = 0; track_id = None; outcome = Updated; cost = None }
+pub loop-i-init : goal.loop-i-init
+loop-i-init c = (search rules, search (rules, length_mapped), search rules, filled_start association_to _ _)
+
+pub loop-i-preserved : goal.loop-i-preserved
+loop-i-preserved c =
+    let v = c.loop-i.invariant in
+    (search rules, v.1, v.2, rw c.association_to.ensures (filled_more association_to _ _ _ _ _ v.3 (omega (arith, v.1)) (omega (arith, v.2))))
 
 pub returns : goal.returns
 returns c =
-    let r = c.args.r in
-    let long : length r.associations ≡ 64 = search (rules, length_mapped) in
-    made association_to no_association _ _ 64 r.associations _ long (λ k h y q s. (search rules, search rules)) c.from_fn.ensures.items
+    let l = c.loop-i in
+    let v = l.invariant in
+    filled_all association_to _ _ _ l.i (v.1 ∙ sym v.2) v.3 (omega (arith, v.1))

@@ -1,17 +1,22 @@
-use Rattle.std.proofs.Common.{◌≡◌, rules, length, []}
-use Rattle.std.specs.Float.{nan}
+use mathlib.Core.Path.{sym, ◌∙◌}
+use Prim.Native.Nat.{◌-◌}
+use native.Mathlib.Omega.{arith}
+use borrow.Author.Rules.{rules}
 use Rattle.lists.proofs.Laying.{length_mapped}
-use Rattle.records.proofs.Made.{made}
-use Rattle.batch_records.specs.declared.PkDetection.{PkDetection}
 use Rattle.batch_records.specs.Batches.{detection_of}
+use Rattle.lists.proofs.Filling.{filled_start, filled_more, filled_all}
 use Rattle.batch_records.proofs.detections_of.Goals as goal
 
--- what code reads past the end
-abbrev no_detection : PkDetection
-no_detection = record { position = []; covariance = []; velocity = []; score = nan; has_velocity = 0; has_score = 0; has_class = 0; class_label = 0 }
+pub loop-i-init : goal.loop-i-init
+loop-i-init c = (search rules, search (rules, length_mapped), search rules, filled_start detection_of _ _)
+
+pub loop-i-preserved : goal.loop-i-preserved
+loop-i-preserved c =
+    let v = c.loop-i.invariant in
+    (search rules, v.1, v.2, rw c.detection_of.ensures (filled_more detection_of _ _ _ _ _ v.3 (omega (arith, v.1)) (omega (arith, v.2))))
 
 pub returns : goal.returns
 returns c =
-    let b = c.args.b in
-    let long : length b.detections ≡ 64 = search (rules, length_mapped) in
-    made detection_of no_detection _ _ 64 b.detections _ long (λ k h y q r. (search rules, search rules)) c.from_fn.ensures.items
+    let l = c.loop-i in
+    let v = l.invariant in
+    filled_all detection_of _ _ _ l.i (v.1 ∙ sym v.2) v.3 (omega (arith, v.1))
