@@ -3,9 +3,8 @@ use Rattle.std.specs.Prelude.{None, Option, Some}
 use mathlib.Core.Path.{◌≡◌, refl, sym, ap, ◌∙◌}
 use mathlib.Core.Bool.{Bool, true, false}
 use mathlib.Core.List.{List}
-use Prim.Native.Nat.{ℕ, ◌≤◌, ◌<◌, ◌^◌, ◌-◌}
+use Prim.Native.Nat.{ℕ}
 use native.Mathlib.Omega.{arith}
-use borrow.Author.Tests.{lt-ltb, le-ltb}
 use lib.IntN.{ℤ}
 use Rattle.number.specs.Reply.{Reply, refused, given, and_then}
 use Rattle.number.proofs.Replies.{given_same, never_given}
@@ -22,7 +21,6 @@ use Rattle.birth_stage.specs.declared.one.Considered.{Considered}
 use Rattle.birth_candidates.specs.Candidates.{list_of, over, seen_in, after_sighting}
 use Rattle.birth_candidates.proofs.Listing.{listed}
 use Rattle.spawning.specs.Ruling.{ruling_of}
-use Rattle.spawning.specs.Spawn.{made_of}
 use Rattle.birth_stage.specs.One.{decided_of, begin_with, tried_of, One, one_with, one_of, after_one}
 
 -- ---- by the ruling
@@ -66,21 +64,6 @@ module _ (config : Cartesian3DTrackerConfig) (now : ℤ) (d : Detection) (c : Ca
 
     pub decide_counted : (k : ℕ) (r : Reply Sighted) → ruling.Counted k ≡ ruling_of low near required → r ≡ after_sighting c (sighted_for config.birth_candidate_radius_m now d (Some k) (list_of c)) → r ≡ decided low near
     decide_counted k r e s = counted_by low near required k r refl e s
-
--- ---- a track behind k others
-
-module _ (d : Detection) (k id sightings : ℕ) (b : Begin) where
-  pub try_room : k < 64 → id < 2 ^ 64 - 1 → made_of d id sightings b ≡ tried_of d k id sightings b
-  unfolding tried_of
-  try_room h g = rw (lt-ltb k 64 h, lt-ltb id (2 ^ 64 - 1) g)
-
-  pub try_no_place : 64 ≤ k → refused 11 ≡ tried_of d k id sightings b
-  unfolding tried_of
-  try_no_place h = rw (le-ltb k 64 h)
-
-  pub try_no_number : k < 64 → 2 ^ 64 - 1 ≤ id → refused 11 ≡ tried_of d k id sightings b
-  unfolding tried_of
-  try_no_number h g = rw (lt-ltb k 64 h, le-ltb id (2 ^ 64 - 1) g)
 
 -- ---- both
 

@@ -61,6 +61,7 @@ pub fn decide(
 }
 
 // The track that the detection begins behind k others, where there is room for it.
+#[tactic(auto, unfolding(crate::specs::One::tried_of))]
 fn try_spawn(d: Detection, k: usize, id: u64, sightings: u32, b: Begin) -> Result<Track3D, Refusal>
     ensures { reply_by number_of result ≡ tried_of d k id sightings b }
 {

@@ -3,7 +3,7 @@
 
 ghost use Rattle.std.specs.Prelude.{◌≡◌, true, map, ◌≤◌, length};
 ghost use Rattle.sightings.specs.Sights.{sight_of, Kin};
-ghost use Rattle.sightings.specs.Laid.{sights_of, Sound};
+ghost use Rattle.sightings.specs.Laid.{sights_of, empty, Sound};
 
 use detections::Detection;
 
@@ -34,7 +34,7 @@ fn is_same_noise(a: [f64; 9], b: [f64; 9]) -> bool
 impl Sightings {
     // Places for 64 detections, and none in them.
     pub fn new() -> Sightings
-        ensures { result.count ≡ 0 }
+        ensures { result ≡ empty }
     {
         Sightings {
             positions: [[0.0; 3]; 64],
