@@ -1,5 +1,5 @@
 // The digest of words, by which recorded states and reports are compared. It stays below its modulus, so that no step of it leaves 64 bits.
-ghost use Rattle.std.specs.Prelude.{◌≡◌, ◌<◌};
+ghost use Rattle.std.specs.Prelude.{◌≡◌, ◌<◌, take};
 ghost use Rattle.wire.specs.Digest.{modulus, mixed, mixed_word, digest_of};
 
 // One half of a word.
@@ -26,4 +26,11 @@ pub fn digest_all(words: &[u64]) -> u64
         value = mix_word(value, *word);
     }
     value
+}
+
+// The digest of the first n words.
+pub fn digest_of(words: &[u64], n: usize) -> u64
+    ensures { result ≡ digest_of (take n words.now) }
+{
+    digest_all(&words[..n.min(words.len())])
 }
