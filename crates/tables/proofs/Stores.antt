@@ -8,9 +8,10 @@ use lib.ListN.{take}
 use Rattle.lists.specs.Table.{Table, over_table}
 use Rattle.lifecycle.specs.declared.TrackLifecycleState.TheVariants.{Tentative}
 use Rattle.types.specs.declared.track.Track3D.{Track3D}
+use Rattle.types.specs.declared.tracker.BirthCandidate.{BirthCandidate}
 use Rattle.types.specs.declared.tracker.SensorSequence.{SensorSequence}
 use Rattle.types.specs.declared.tracker.Cartesian3DTracker.{Cartesian3DTracker}
-use Rattle.types.specs.States.{tracks_of, sequences_of, with_tables, track_table, sequence_table, candidate_table, over_tracks, over_sequences}
+use Rattle.types.specs.States.{tracks_of, sequences_of, candidates_of, with_tables, track_table, sequence_table, candidate_table, over_tracks, over_sequences, over_candidates}
 
 -- ---- a table changed
 
@@ -23,6 +24,11 @@ pub sequences_are : (s : Cartesian3DTracker) (op : List SensorSequence → List 
     → with_tables (track_table s) t (candidate_table s) s ≡ over_sequences s (op (sequences_of s))
 unfolding over_sequences sequences_of
 sequences_are s op t e = ap (λ (u : Table SensorSequence). with_tables (track_table s) u (candidate_table s) s) e
+
+pub candidates_are : (s : Cartesian3DTracker) (op : List BirthCandidate → List BirthCandidate) (t : Table BirthCandidate) → t ≡ over_table (op (take s.candidate_count s.candidates)) s.candidates
+    → with_tables (track_table s) (sequence_table s) t s ≡ over_candidates s (op (candidates_of s))
+unfolding over_candidates candidates_of
+candidates_are s op t e = ap (λ (u : Table BirthCandidate). with_tables (track_table s) (sequence_table s) u s) e
 
 -- ---- past the end
 
@@ -39,6 +45,9 @@ no_track =
       contributing_sensors = record { ids = []; count = 0 };
       updated_this_batch = false;
     }
+
+abbrev pub no_candidate : BirthCandidate
+no_candidate = record { position = []; last_seen = pos 0; sightings = 0 }
 
 abbrev pub no_sequence : SensorSequence
 no_sequence = record { sensor = 0; sequence = 0 }

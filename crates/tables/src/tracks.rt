@@ -1,13 +1,29 @@
 // The table of tracks.
 ghost use Rattle.std.specs.Prelude.{◌≡◌, false, map};
 ghost use Rattle.lists.specs.First.{first_at, change_first};
+ghost use Rattle.lists.specs.Table.{pushed};
 ghost use Rattle.types.specs.Track.{with_prior, with_mark};
 ghost use Rattle.types.specs.States.{tracks_of, over_tracks};
 ghost use Rattle.tables.specs.Operations.{numbered};
 
 use detections::pairs::ClassPrior;
 use types::MAX_TRACKS;
+use types::track::Track3D;
 use types::tracker::Cartesian3DTracker;
+
+// The track behind the others, where there is room for one more.
+pub fn push_track(mut s: Cartesian3DTracker, track: Track3D) -> Cartesian3DTracker
+    ensures { result ≡ over_tracks s (pushed 64 track (tracks_of s)) }
+{
+    let n = super::taken(s.track_count, MAX_TRACKS);
+    if n < MAX_TRACKS {
+        s.tracks[n] = track;
+        s.track_count = n + 1;
+    } else {
+        s.track_count = n;
+    }
+    s
+}
 
 // Where the first track of the number stands.
 pub fn find_track(s: Cartesian3DTracker, id: u64) -> Option<usize>

@@ -1,0 +1,24 @@
+use mathlib.Core.Path.{◌≡◌}
+use lib.ListN.{length, set}
+use native.Mathlib.Omega.{arith}
+use borrow.Author.Rules.{rules}
+use Rattle.lists.proofs.Laying.{length_mapped}
+use Rattle.lists.proofs.Tables.{replaced, replaced_none}
+use Rattle.tables.proofs.Stores.{candidates_are}
+use Rattle.tables.proofs.candidates.replace_candidate.Goals as goal
+
+pub returns-then-i-n : goal.returns-then-i-n
+returns-then-i-n c =
+    let a = c.args in
+    let s = a.s in
+    let n = c.taken-n in
+    let l : length s.candidates ≡ 64 = search (rules, length_mapped) in
+    candidates_are s (λ m. set m a.i a.candidate) _ (replaced s.candidates 64 s.candidate_count n.result l n.ensures a.i a.candidate c.if-i-n.true)
+
+pub returns-else-i-n : goal.returns-else-i-n
+returns-else-i-n c =
+    let a = c.args in
+    let s = a.s in
+    let n = c.taken-n in
+    let l : length s.candidates ≡ 64 = search (rules, length_mapped) in
+    candidates_are s (λ m. set m a.i a.candidate) _ (replaced_none s.candidates 64 s.candidate_count n.result l n.ensures a.i a.candidate (omega (arith, c.if-i-n.false)))
