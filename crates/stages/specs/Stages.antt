@@ -8,7 +8,7 @@ use Rattle.types.specs.declared.tracker.Cartesian3DTracker.{Cartesian3DTracker}
 use Rattle.types.specs.declared.track.Track3D.{Track3D}
 use Rattle.types.specs.Track.{with_mark}
 use Rattle.types.specs.Refusals.{number_of}
-use Rattle.types.specs.Batches.{whole_report}
+use Rattle.types.specs.Batches.{blank_report, whole_report}
 use Rattle.types.specs.States.{State, state_with, state_of, tracks_of, sequences_of, candidates_of, over_tracks, over_state}
 use Rattle.calls.specs.Predict.{predicted_tracks}
 use Rattle.calls.specs.Pairing.{pair_config}
@@ -19,6 +19,10 @@ use Rattle.matching.specs.Stage.{takers_for, Matches}
 use Rattle.association.specs.Told.{columns_from}
 use Rattle.stages.specs.declared.Finished.{Finished}
 use Rattle.stages.specs.declared.Matching.{Matching}
+use Rattle.stages.specs.declared.Reported.{Reported}
+
+abbrev pub refused_with : Cartesian3DTracker → Refusal → Reported
+refused_with t why = record { outcome = Err why; tracker = t; report = blank_report }
 
 -- the tracker's own state with other tracks
 abbrev pub tracks_in : Cartesian3DTracker → List Track3D → State

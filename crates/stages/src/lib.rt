@@ -12,7 +12,7 @@ ghost use Rattle.batches.specs.Check.{detections_reply};
 ghost use Rattle.calls.specs.Pairing.{pair_config};
 ghost use Rattle.calls.specs.Process.{finished};
 ghost use Rattle.matching.specs.Stage.{rows_taken, Matches, RowsMatch};
-ghost use Rattle.stages.specs.Stages.{laid_over, prepared_state, seen_in, takers_in, MatchAnswers, matched_by, finished_on};
+ghost use Rattle.stages.specs.Stages.{refused_with, laid_over, prepared_state, seen_in, takers_in, MatchAnswers, matched_by, finished_on};
 
 use detections::Detection;
 use detections::pairs::PairConfig;
@@ -27,6 +27,15 @@ use types::{MAX_CANDIDATES, MAX_OBSERVATIONS, MAX_SEQUENCES, MAX_TRACKS};
 // A batch that is carried out: the tracker after it, and the report.
 #[derive(Clone, Copy)]
 pub struct Finished {
+    pub tracker: Cartesian3DTracker,
+    pub report: BatchReport3D,
+}
+
+// Whether a batch was carried out, the tracker after it, and the report, which is blank beside a refusal.
+// No `Result`: the tracker goes in by value and comes back in every answer, the old one beside a refusal.
+#[derive(Clone, Copy)]
+pub struct Reported {
+    pub outcome: Result<(), Refusal>,
     pub tracker: Cartesian3DTracker,
     pub report: BatchReport3D,
 }
@@ -69,6 +78,17 @@ pub fn blank_report() -> BatchReport3D
     }
 }
 
+// A batch that is refused leaves the tracker as it was.
+pub fn refuse(t: Cartesian3DTracker, why: Refusal) -> Reported
+    ensures { result ≡ refused_with t why }
+{
+    Reported {
+        outcome: Err(why),
+        tracker: t,
+        report: blank_report(),
+    }
+}
+
 // Stages 2 and 3: the tracks at the batch's time, with no mark.
 pub fn prepare(t: Cartesian3DTracker, time: i64) -> Result<Cartesian3DTracker, Refusal>
     ensures { reply_by number_of result ≡ laid_over t (prepared_state t time) }
@@ -97,7 +117,7 @@ pub fn pair_rows(
 }
 
 // Stage 5 and what comes before it: the pairing of the tracks with the batch's detections.
-fn pair(u: Cartesian3DTracker, batch: ObservationBatch3D) -> Result<Paired, Refusal>
+pub fn pair(u: Cartesian3DTracker, batch: ObservationBatch3D) -> Result<Paired, Refusal>
     ensures { Matches (pair_config u.config) (tracks_of u) (seen_in batch) (takers_in u batch) result }
 {
     let rows = pairing::rows_of(u.tracks, u.track_count);
@@ -113,6 +133,7 @@ fn pair(u: Cartesian3DTracker, batch: ObservationBatch3D) -> Result<Paired, Refu
 
 // Stages 4 to 6, on a tracker whose tracks are at the batch's time: the pairing and the updates. The batch has passed its check.
 // A leaf: only a batch that has passed comes here, so that no detection is checked twice.
+// Where an update is refused after the pairing, the answer is that refusal alone; `pair` tells the pairing there too.
 pub fn match_tracks(u: Cartesian3DTracker, batch: ObservationBatch3D) -> Result<Matching, Refusal>
     requires { detections_reply (seen_in batch) ≡ given tt }
     ensures { MatchAnswers u batch result }
