@@ -13,8 +13,9 @@ ghost use Rattle.tracker.specs.Owner.{refused_with};
 use detections::pairs::ClassPrior;
 use settings::Cartesian3DTrackerConfig;
 use stages::Finished;
+pub use stages::Reported;
 use types::MAX_TRACKS;
-use types::batch::{BatchReport3D, ObservationBatch3D};
+use types::batch::ObservationBatch3D;
 use types::refusal::Refusal;
 use types::track::Snapshots;
 use types::tracker::Cartesian3DTracker;
@@ -25,14 +26,6 @@ use types::tracker::Cartesian3DTracker;
 pub struct Answered {
     pub outcome: Result<(), Refusal>,
     pub tracker: Cartesian3DTracker,
-}
-
-// Whether a batch was carried out, the tracker after it, and the report, which is blank beside a refusal. No `Result`, as above.
-#[derive(Clone, Copy)]
-pub struct Reported {
-    pub outcome: Result<(), Refusal>,
-    pub tracker: Cartesian3DTracker,
-    pub report: BatchReport3D,
 }
 
 // Whether the settings were accepted, and a tracker under them. No `Result`, as above: a tracker is made of any settings.
@@ -123,11 +116,7 @@ pub fn process_batch_reported(t: Cartesian3DTracker, batch: ObservationBatch3D) 
     ensures { BatchAnswers t batch result.tracker result.outcome result.report }
 {
     match carry_out(t, batch) {
-        Err(why) => Reported {
-            outcome: Err(why),
-            tracker: t,
-            report: stages::blank_report(),
-        },
+        Err(why) => stages::refuse(t, why),
         Ok(done) => Reported {
             outcome: Ok(()),
             tracker: done.tracker,
