@@ -85,7 +85,8 @@ pub fn cholesky<const N: usize>(a: [[f64; N]; N]) -> Option<Lower<N>>
 {
     let mut columns = [[0.0; N]; N];
     for j in 0..N {
-        let d = pivot_root(remainder(&a, &columns, j, j))?;
+        let pivot = remainder(&a, &columns, j, j);
+        let d = pivot_root(pivot)?;
         columns[j] = column(&a, &columns, j, d);
     }
     Some(Lower { columns })
@@ -98,7 +99,8 @@ pub fn has_factor<const N: usize>(a: [[f64; N]; N]) -> bool
     let mut l = [[0.0; N]; N];
     for j in 0..N {
         let pivot = remainder(&a, &l, j, j);
-        if pivot > 0.0 {
+        let positive = pivot > 0.0;
+        if positive {
             if j + 1 < N {
                 l[j] = column(&a, &l, j, root_or_zero(pivot));
             }

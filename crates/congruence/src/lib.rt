@@ -75,6 +75,7 @@ fn transposed<const N: usize, const P: usize>(a: [[f64; P]; N]) -> [[f64; N]; P]
 }
 
 // (a p) times the transpose of a, which is laid out first, so that two columns are done at a time.
+#[tactic(auto, unfolding(matrix::specs::Matrix::congruence))]
 pub fn congruence<const N: usize, const M: usize>(
     a: [[f64; M]; N],
     p: [[f64; M]; M],

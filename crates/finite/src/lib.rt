@@ -9,11 +9,19 @@ ghost use Rattle.finite.specs.Finite.{finite_vector, finite_matrix};
 
 use std::array::from_fn;
 
-// Whether all items are finite.
-pub fn is_finite_vector<const N: usize>(x: [f64; N]) -> bool
+// Whether all items are finite, tested one by one.
+fn each_item<const N: usize>(x: [f64; N]) -> bool
     ensures { result ≡ finite_vector N x.entry }
 {
     x.iter().all(|v| number::float::is_finite(*v))
+}
+
+// The same, for every caller.
+#[tactic(auto, unfolding(crate::specs::Finite::finite_vector))]
+pub fn is_finite_vector<const N: usize>(x: [f64; N]) -> bool
+    ensures { result ≡ finite_vector N x.entry }
+{
+    each_item(x)
 }
 
 // The sum of column j.
@@ -41,14 +49,21 @@ pub fn total<const N: usize, const P: usize>(a: [[f64; P]; N]) -> f64
     ))
 }
 
-// Whether all entries are finite. Where their sum is not, they are tested one by one: a sum of finite entries can overflow.
+// Whether all rows are finite, tested one by one.
+fn each_row<const N: usize, const P: usize>(a: [[f64; P]; N]) -> bool
+    ensures { result ≡ finite_matrix N P a.entry }
+{
+    a.iter().all(
+        |row| -> bool
+            ensures { result ≡ finite_vector P row.now }
+        { is_finite_vector(*row) },
+    )
+}
+
+// Whether all entries are finite. Where their sum is not, they are tested row by row: a sum of finite entries can overflow.
+#[tactic(auto, unfolding(crate::specs::Finite::finite_matrix))]
 pub fn is_finite_matrix<const N: usize, const P: usize>(a: [[f64; P]; N]) -> bool
     ensures { result ≡ finite_matrix N P a.entry }
 {
-    number::float::is_finite(total(a))
-        || a.iter().all(
-            |row| -> bool
-                ensures { result ≡ finite_vector P row.now }
-            { is_finite_vector(*row) },
-        )
+    number::float::is_finite(total(a)) || each_row(a)
 }

@@ -45,26 +45,29 @@ fn flat<const N: usize, const P: usize, const L: usize>(a: [[f64; P]; N]) -> [f6
 }
 
 // The same of three rows and of six. They have names of their own since they ask nothing, where the function of any size asks for the product.
+#[tactic(auto, unfolding(matrix::specs::Flat::rows_of))]
 pub fn rows3(v: [f64; 9]) -> [[f64; 3]; 3]
     ensures { result ≡ rows_of 3 3 v }
 {
-    rows(v)
+    rows::<3, 3, 9>(v)
 }
 
 pub fn rows6(v: [f64; 36]) -> [[f64; 6]; 6]
     ensures { result ≡ rows_of 6 6 v }
 {
-    rows(v)
+    rows::<6, 6, 36>(v)
 }
 
+#[tactic(auto, unfolding(matrix::specs::Flat::flat_of))]
 pub fn flat3(a: [[f64; 3]; 3]) -> [f64; 9]
     ensures { result ≡ flat_of 3 3 a }
 {
-    flat(a)
+    flat::<3, 3, 9>(a)
 }
 
+#[tactic(auto, unfolding(matrix::specs::Flat::flat_of))]
 pub fn flat6(a: [[f64; 6]; 6]) -> [f64; 36]
     ensures { result ≡ flat_of 6 6 a }
 {
-    flat(a)
+    flat::<6, 6, 36>(a)
 }

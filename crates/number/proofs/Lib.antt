@@ -8,3 +8,4 @@ pub mod Plus
 pub mod Replies
 pub mod Minus
 pub mod Differences
+pub mod Same

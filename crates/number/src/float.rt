@@ -4,6 +4,7 @@ ghost use Rattle.std.specs.Float.Ieee.Scale.{finite};
 ghost use Rattle.number.specs.Float.{absolute_of, larger_of, clamp_of};
 
 // Whether x is neither a NaN nor an infinity.
+#[tactic(auto, using(crate::proofs::Same::same_test))]
 pub fn is_finite(x: f64) -> bool
     ensures { result ≡ finite x }
 {
@@ -11,6 +12,7 @@ pub fn is_finite(x: f64) -> bool
 }
 
 // x without its sign.
+#[tactic(auto, using(crate::proofs::Same::no_sign))]
 pub fn absolute(x: f64) -> f64
     ensures { result ≡ absolute_of x }
 {

@@ -61,7 +61,8 @@ fn row<const N: usize, const FROM: usize>(x: [f64; N], i: usize) -> [f64; 6]
     requires { N + FROM ≤ 6 }
     ensures { result ≡ less_from 6 i (row_times N 6 x.entry (selection N 6 FROM)) }
 {
-    if number::float::is_finite(sums::sum(x)) {
+    let total = sums::sum(x);
+    if number::float::is_finite(total) {
         row_read::<N, FROM>(x, i)
     } else {
         row_worked::<N, FROM>(x, i)

@@ -51,6 +51,7 @@ fn behind<const N: usize>(columns: &[[f64; N]; N], x: &[f64; N], i: usize) -> f6
 }
 
 // Item i of x with Lᵀ x = y, by the items behind it.
+#[tactic(auto, using(crate::proofs::Steps::item_before, crate::proofs::Steps::item_last))]
 fn backward_item<const N: usize>(
     columns: &[[f64; N]; N],
     y: &[f64; N],

@@ -4,7 +4,7 @@ use Rattle.std.specs.Float.Ieee.Scale.{finite}
 use Rattle.std.proofs.lemmas.Iterator.{cases_from_all, YieldsList-from_slice}
 use Rattle.matrix.proofs.Tested.{tested}
 use Rattle.finite.specs.Finite.{finite_vector}
-use Rattle.finite.proofs.is_finite_vector.Goals as goal
+use Rattle.finite.proofs.each_item.Goals as goal
 
 pub returns : goal.returns
 unfolding finite_vector
