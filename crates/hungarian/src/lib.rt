@@ -397,7 +397,11 @@ pub fn solve(costs: &[f64], q: Shape, p: &mut [usize; 129]) -> Result<(), RunErr
         return Err(RunError::Failed);
     }
     let mut taken = [0usize; 129];
-    hungarian_square(costs, q, &mut taken)?;
-    *p = taken;
-    Ok(())
+    match hungarian_square(costs, q, &mut taken) {
+        Ok(()) => {
+            *p = taken;
+            Ok(())
+        }
+        Err(why) => Err(RunError::from(why)),
+    }
 }

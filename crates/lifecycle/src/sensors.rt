@@ -29,7 +29,8 @@ impl Sensors {
         let mut ids = self.ids;
         // How many of the places are taken, whatever the count says.
         let n = self.count.min(16);
-        if ids[..n].contains(&sensor) {
+        let known = ids[..n].contains(&sensor);
+        if known {
             Sensors { ids, count: n }
         } else if bound(limit) <= n {
             ids.copy_within(1..n, 0);

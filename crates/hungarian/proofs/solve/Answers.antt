@@ -1,4 +1,4 @@
-use Rattle.std.proofs.lemmas.Result.{err_from_is_err_and}
+use borrow.Author.Rules.{rules}
 use native.Mathlib.Omega.{arith}
 use Rattle.hungarian.proofs.Replies.{rows_over, columns_over, size_bad, run_failed, run_given}
 use Rattle.hungarian.proofs.solve.Goals as goal
@@ -17,10 +17,8 @@ returns-then-costs-q c = let s = c in size_bad s.args.costs.now s.args.q (omega 
 pub hungarian_square-requires : goal.hungarian_square-requires
 hungarian_square-requires c = let s = c in (omega (arith, c.if-q-gt64.false), omega (arith, c.if-q-gt64-2.false), c.if-costs-q.false)
 
-pub returns-in_err-hungarian_square : goal.returns-in_err-hungarian_square
-returns-in_err-hungarian_square c =
-    let p = err_from_is_err_and c.from_residual.result c.from_residual.ensures.1 in
-    rw p.1 (run_failed c.args.costs.now c.args.q (omega (arith, c.if-q-gt64.false)) (omega (arith, c.if-q-gt64-2.false)) c.if-costs-q.false _ _ _ _ p.2 c.in_err-hungarian_square.ensures)
+pub returns-in-Err : goal.returns-in-Err
+returns-in-Err c = run_failed c.args.costs.now c.args.q (omega (arith, c.if-q-gt64.false)) (omega (arith, c.if-q-gt64-2.false)) c.if-costs-q.false _ _ _ _ (search rules) c.in-Err.ensures
 
-pub returns : goal.returns
-returns c = run_given c.args.costs.now c.args.q (omega (arith, c.if-q-gt64.false)) (omega (arith, c.if-q-gt64-2.false)) c.if-costs-q.false _ _ c.in_ok-hungarian_square.ensures
+pub returns-in-Ok : goal.returns-in-Ok
+returns-in-Ok c = run_given c.args.costs.now c.args.q (omega (arith, c.if-q-gt64.false)) (omega (arith, c.if-q-gt64-2.false)) c.if-costs-q.false _ _ c.in-Ok.ensures

@@ -1,5 +1,7 @@
 use Rattle.std.proofs.lemmas.Result.{err_from_is_err_and}
-use mathlib.Core.Path.{sym, ap, ◌∙◌}
+use mathlib.Core.Path.{◌≡◌, sym, ap, ◌∙◌}
+use borrow.Author.Rules.{rules}
+use Rattle.number.specs.Reply.{refused, given}
 use Rattle.cholesky.specs.Definite.{reply_of_found}
 use Rattle.math.specs.Linalg.{reply_of_validity}
 use Rattle.math.proofs.Answers.{entries_pass, entries_stop}
@@ -11,7 +13,11 @@ returns-in_err-check_entries g c =
     rw (p.1, p.2) (entries_stop g.row.N _ _ (ap reply_of_validity (sym c.in_err-check_entries.was) ∙ c.check_entries.ensures))
 
 pub returns-then-definite : goal.returns-then-definite
-returns-then-definite g c = ap reply_of_found (sym c.if-definite.true) ∙ entries_pass g.row.N _ _ (ap reply_of_validity (sym c.in_ok-check_entries.was) ∙ c.check_entries.ensures)
+returns-then-definite g c =
+    let found : given tt ≡ reply_of_found c.args.definite = search rules in
+    found ∙ entries_pass g.row.N _ _ (ap reply_of_validity (sym c.in_ok-check_entries.was) ∙ c.check_entries.ensures)
 
 pub returns-else-definite : goal.returns-else-definite
-returns-else-definite g c = ap reply_of_found (sym c.if-definite.false) ∙ entries_pass g.row.N _ _ (ap reply_of_validity (sym c.in_ok-check_entries.was) ∙ c.check_entries.ensures)
+returns-else-definite g c =
+    let found : refused 7 ≡ reply_of_found c.args.definite = search rules in
+    found ∙ entries_pass g.row.N _ _ (ap reply_of_validity (sym c.in_ok-check_entries.was) ∙ c.check_entries.ensures)
