@@ -19,6 +19,9 @@ module _ (d : Detection) where
     pub finite_position : finite_vector 3 d.position ≡ true
     finite_position = finite_parts.0
 
+    pub finite_velocity_lem : finite_velocity d.velocity ≡ true
+    finite_velocity_lem = finite_parts.1
+
     pub valid_covariance : given tt ≡ validated 3 (rows_of 3 3 d.covariance)
     unfolding detection_reply
     valid_covariance = sym (past_test (finite_vector 3 d.position && finite_velocity d.velocity) 5 _ tt passed).1

@@ -97,6 +97,16 @@ module _ {A : Type 0} where
   change_at p d f (x ∷ xs) (suc i) h = rw (passed p d x xs i h) (ap (λ (q : List A). x ∷ q) (change_at p d f xs i (rest p d x xs i h)))
 
   -- no place: no element, and no change
+  pub none_of : (p : A → Bool) (l : List A) → first_at p l ≡ None → first_of p l ≡ None
+  unfolding first_at first_of
+  none_of p [] e = refl
+  none_of p (x ∷ xs) e = go (p x) (first_at p xs) (none_of p xs) e
+    where
+      go : (b : Bool) (o : Option ℕ) → (o ≡ None → first_of p xs ≡ None) → cond b (Some 0) (one_place_on o) ≡ None → cond b (Some x) (first_of p xs) ≡ None
+      go true o q e = cc
+      go false None q e = q refl
+      go false (Some j) q e = cc
+
   pub change_none : (p : A → Bool) (f : A → A) (l : List A) → first_at p l ≡ None → change_first p f l ≡ l
   unfolding first_at change_first
   change_none p f [] e = refl

@@ -86,11 +86,10 @@ fn check_entries<const N: usize>(a: [[f64; N]; N]) -> Result<(), Refusal>
     }
 }
 
-// Whether a may be a covariance, finite, symmetric and with a factor in this order, where it is known whether it has one.
-pub fn validity<const N: usize>(a: [[f64; N]; N], definite: bool) -> Result<(), Refusal>
-    ensures { reply_of_validity result ≡ entries_checked N a.entry (reply_of_found definite) }
+// What is answered where the entries may be a covariance's, and it is known whether there is a factor.
+fn decided(definite: bool) -> Result<(), Refusal>
+    ensures { reply_of_validity result ≡ reply_of_found definite }
 {
-    check_entries(a)?;
     if definite {
         Ok(())
     } else {
@@ -98,9 +97,18 @@ pub fn validity<const N: usize>(a: [[f64; N]; N], definite: bool) -> Result<(), 
     }
 }
 
-// Whether a may be a covariance.
+// Whether a may be a covariance, finite, symmetric and with a factor in this order, where it is known whether it has one.
+pub fn validity<const N: usize>(a: [[f64; N]; N], definite: bool) -> Result<(), Refusal>
+    ensures { reply_of_validity result ≡ entries_checked N a.entry (reply_of_found definite) }
+{
+    check_entries(a)?;
+    decided(definite)
+}
+
+// Whether a may be a covariance. The factor is asked for last, so that a matrix refused for its entries costs no factor.
 pub fn validate_covariance<const N: usize>(a: [[f64; N]; N]) -> Result<(), Refusal>
     ensures { reply_of_validity result ≡ validated N a.entry }
 {
-    validity(a, cholesky::has_factor(a))
+    check_entries(a)?;
+    decided(cholesky::has_factor(a))
 }

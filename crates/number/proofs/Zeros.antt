@@ -1,5 +1,5 @@
 -- Comparisons of a finite value with zero. Assumes nothing.
-use Rattle.std.proofs.Common.{◌≡◌, ℕ, zero, suc, ◌*◌, ◌<◌, Bool, true, false, ◌&&◌, ℤ, sym, refl, ap, ◌∙◌, true≢false, zero-lt-suc, mul-pos, zero-mul, arith, ltb-false, ltb-true, eqb-true}
+use Rattle.std.proofs.Common.{◌≡◌, ℕ, zero, suc, ◌+◌, ◌*◌, ◌<◌, Bool, true, false, ◌&&◌, ℤ, sym, refl, ap, ◌∙◌, true≢false, zero-lt-suc, mul-pos, zero-mul, arith, ltb-false, ltb-true, eqb-true}
 use lib.Ieee.{fin, binary64, up, down, level, lt, eq, of_bits}
 use lib.Ieee.Fits.{up_pos}
 
@@ -23,6 +23,10 @@ both false b p = impossible p
 pub not_zero {ℓ} : {A : Type ℓ} (s : Bool) (m : ℕ) (e : ℤ) → eq (fin s (suc m) e) (of_bits binary64 0) ≡ true → A
 unfolding eq of_bits
 not_zero s m e h = absurd (omega (arith, eqb-true (suc m * up e * 1) (0 * 1 * down e) (both _ _ h).0, some m e, zero_side e))
+
+pub negative_below {ℓ} : {A : Type ℓ} (m : ℕ) (e : ℤ) → lt (fin true (suc m) e) (of_bits binary64 0) ≡ false → A
+unfolding lt of_bits
+negative_below m e h = absurd (omega (arith, ltb-false 0 (suc m * up e * 1 + 0 * 1 * down e) h, some m e))
 
 zeros_level : (s : Bool) → level s 0 false 0 ≡ true
 zeros_level true = refl

@@ -1,8 +1,5 @@
 use Rattle.std.proofs.lemmas.Result.{err_from_is_err_and}
-use mathlib.Core.Path.{◌≡◌, sym, ap, ◌∙◌}
-use borrow.Author.Rules.{rules}
-use Rattle.number.specs.Reply.{refused, given}
-use Rattle.cholesky.specs.Definite.{reply_of_found}
+use mathlib.Core.Path.{sym, ap, ◌∙◌}
 use Rattle.math.specs.Linalg.{reply_of_validity}
 use Rattle.math.proofs.Answers.{entries_pass, entries_stop}
 use Rattle.math.proofs.linalg.validity.Goals as goal
@@ -12,12 +9,5 @@ returns-in_err-check_entries g c =
     let p = err_from_is_err_and c.from_residual.result c.from_residual.ensures.1 in
     rw (p.1, p.2) (entries_stop g.row.N _ _ (ap reply_of_validity (sym c.in_err-check_entries.was) ∙ c.check_entries.ensures))
 
-pub returns-then-definite : goal.returns-then-definite
-returns-then-definite g c =
-    let found : given tt ≡ reply_of_found c.args.definite = search rules in
-    found ∙ entries_pass g.row.N _ _ (ap reply_of_validity (sym c.in_ok-check_entries.was) ∙ c.check_entries.ensures)
-
-pub returns-else-definite : goal.returns-else-definite
-returns-else-definite g c =
-    let found : refused 7 ≡ reply_of_found c.args.definite = search rules in
-    found ∙ entries_pass g.row.N _ _ (ap reply_of_validity (sym c.in_ok-check_entries.was) ∙ c.check_entries.ensures)
+pub returns : goal.returns
+returns g c = c.decided.ensures ∙ entries_pass g.row.N _ _ (ap reply_of_validity (sym c.in_ok-check_entries.was) ∙ c.check_entries.ensures)

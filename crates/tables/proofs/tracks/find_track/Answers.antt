@@ -15,7 +15,7 @@ unfolding tracks_of
 returns c =
     let a = c.args in
     let n = c.taken-n in
-    let l : length a.s.tracks ≡ 64 = search (rules, length_mapped) in
-    first_by (numbered a.id) no_track (take n.result a.s.tracks) _
-    (IsFirst-from_position _ _ _ (λ t. numbered a.id t ≡ true) (λ t. numbered a.id t ≡ false) c.position.ensures.ran (YieldsList-from_slice (take n.result a.s.tracks) cc) (λ t q k. search (rules, tests)) (λ t q k. search (rules, tests)))
-    ∙ sym (ap (first_at (numbered a.id)) (rows a.s.tracks 64 a.s.track_count n.result l n.ensures))
+    let l : length a.s.now.tracks ≡ 64 = search (rules, length_mapped) in
+    first_by (numbered a.id) no_track (take n.result a.s.now.tracks) _
+    (IsFirst-from_position _ _ _ (λ t. numbered a.id t ≡ true) (λ t. numbered a.id t ≡ false) c.position.ensures.ran (YieldsList-from_slice (take n.result a.s.now.tracks) cc) (λ t q k. search (rules, tests)) (λ t q k. search (rules, tests)))
+    ∙ sym (ap (first_at (numbered a.id)) (rows a.s.now.tracks 64 a.s.now.track_count n.result l n.ensures))
