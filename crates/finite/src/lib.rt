@@ -9,14 +9,14 @@ ghost use Rattle.finite.specs.Finite.{finite_vector, finite_matrix};
 
 use std::array::from_fn;
 
-// Whether all items are finite, tested one by one.
+// The test of a vector, item by item.
 fn each_item<const N: usize>(x: [f64; N]) -> bool
     ensures { result ≡ finite_vector N x.entry }
 {
     x.iter().all(|v| number::float::is_finite(*v))
 }
 
-// The same, for every caller.
+// Whether all items are finite.
 #[tactic(auto, unfolding(crate::specs::Finite::finite_vector))]
 pub fn is_finite_vector<const N: usize>(x: [f64; N]) -> bool
     ensures { result ≡ finite_vector N x.entry }
@@ -49,7 +49,7 @@ pub fn total<const N: usize, const P: usize>(a: [[f64; P]; N]) -> f64
     ))
 }
 
-// Whether all rows are finite, tested one by one.
+// The test of a matrix, row by row.
 fn each_row<const N: usize, const P: usize>(a: [[f64; P]; N]) -> bool
     ensures { result ≡ finite_matrix N P a.entry }
 {
