@@ -25,12 +25,17 @@ pub fn push_track(mut s: Cartesian3DTracker, track: Track3D) -> Cartesian3DTrack
     s
 }
 
-// Where the first track of the number stands.
-pub fn find_track(s: &Cartesian3DTracker, id: u64) -> Option<usize>
-    ensures { result ≡ first_at (numbered id) (tracks_of s.now) }
+// Where the first track of the number stands. By index: for an iterator over a part of its tracks the whole tracker is copied.
+pub fn find_track(s: Cartesian3DTracker, id: u64) -> Option<usize>
+    ensures { result ≡ first_at (numbered id) (tracks_of s) }
 {
     let n = super::taken(s.track_count, MAX_TRACKS);
-    s.tracks[..n].iter().position(|t| id == t.id)
+    for i in 0..n {
+        if id == s.tracks[i].id {
+            return Some(i);
+        }
+    }
+    None
 }
 
 // The first track of the number with another prior; nothing changes where there is none.
@@ -42,7 +47,7 @@ pub fn set_prior(
     ensures { result ≡ over_tracks s (change_first (numbered id) (with_prior prior) (tracks_of s)) }
 {
     let n = super::taken(s.track_count, MAX_TRACKS);
-    match find_track(&s, id) {
+    match find_track(s, id) {
         None => {
             s.track_count = n;
             s

@@ -63,7 +63,7 @@ pub fn set_class_prior(t: Cartesian3DTracker, id: u64, label: u32, confidence: f
     if !number::float::is_finite(confidence) {
         return refused(t, Refusal::InvalidPrior);
     }
-    match tables::tracks::find_track(&t, id) {
+    match tables::tracks::find_track(t, id) {
         None => refused(t, Refusal::InvalidPrior),
         Some(_) => Answered {
             outcome: Ok(()),

@@ -1,21 +1,35 @@
-use Rattle.std.proofs.Common.{◌≡◌, rules, true, false, take, length, sym, ap, ◌∙◌}
-use Rattle.std.proofs.lemmas.Iterator.{IsFirst-from_position, YieldsList-from_slice}
-use borrow.Author.Tests.{tests}
-use Rattle.types.specs.States.{tracks_of}
-use Rattle.lists.specs.First.{first_at}
+use mathlib.Core.Path.{sym}
+use native.Mathlib.Omega.{arith}
+use borrow.Author.Rules.{rules}
+use borrow.Author.Tests.{eq-eqb, ne_eqb}
 use Rattle.lists.proofs.Laying.{length_mapped}
-use Rattle.lists.proofs.Tables.{rows}
+use Rattle.types.specs.States.{tracks_of}
 use Rattle.tables.specs.Operations.{numbered}
-use Rattle.tables.proofs.Positions.{first_by}
+use Rattle.tables.proofs.Positions.{missed_start, missed_more, found, nowhere}
 use Rattle.tables.proofs.Stores.{no_track}
 use Rattle.tables.proofs.tracks.find_track.Goals as goal
+
+pub loop-i-init : goal.loop-i-init
+loop-i-init c = (search rules, omega (arith, c.taken-n.ensures), search (rules, length_mapped), missed_start (numbered _) no_track _)
+
+pub returns-then-id-s : goal.returns-then-id-s
+unfolding tracks_of
+returns-then-id-s c =
+    let l = c.before.before in
+    let n = l.taken-n in
+    let a = l.args in
+    let v = l.loop-i.invariant in
+    sym (found a.s.tracks 64 a.s.track_count n.result v.2 n.ensures (numbered a.id) no_track l.loop-i.i v.3 c.loop-i-test.true (eq-eqb _ _ c.if-id-s.true))
+
+pub loop-i-preserved : goal.loop-i-preserved
+loop-i-preserved c =
+    let v = c.loop-i.invariant in
+    (search rules, v.1, v.2, missed_more (numbered _) no_track _ _ v.3 (ne_eqb _ _ c.if-id-s.false))
 
 pub returns : goal.returns
 unfolding tracks_of
 returns c =
-    let a = c.args in
     let n = c.taken-n in
-    let l : length a.s.now.tracks ≡ 64 = search (rules, length_mapped) in
-    first_by (numbered a.id) no_track (take n.result a.s.now.tracks) _
-    (IsFirst-from_position _ _ _ (λ t. numbered a.id t ≡ true) (λ t. numbered a.id t ≡ false) c.position.ensures.ran (YieldsList-from_slice (take n.result a.s.now.tracks) cc) (λ t q k. search (rules, tests)) (λ t q k. search (rules, tests)))
-    ∙ sym (ap (first_at (numbered a.id)) (rows a.s.now.tracks 64 a.s.now.track_count n.result l n.ensures))
+    let a = c.args in
+    let v = c.loop-i.invariant in
+    sym (nowhere a.s.tracks 64 a.s.track_count n.result v.2 n.ensures (numbered a.id) no_track c.loop-i.i v.3 (omega arith))
