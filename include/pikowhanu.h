@@ -26,7 +26,7 @@
 extern "C" {
 #endif
 
-/* Stack that is enough for any call, with margin. Measured, in KB: pk_root 1, pk_linear_assignment 54, pk_tracker_new 70, pk_set_class_prior 327, pk_predict_to 108,
+/* Stack that is enough for any call, with margin. Measured, in KB: pk_root 1, pk_linear_assignment 54, pk_tracker_new 70, pk_set_class_prior 314, pk_predict_to 108,
  * pk_process_batch 484. (musl gives a thread 128 KB unless told otherwise.) */
 #define PK_STACK_BYTES ((size_t)1 << 19)
 
