@@ -102,7 +102,11 @@ pub fn pair_tracks(
         rows: count,
         columns,
     };
-    assign_columns(table, tracks, time, gate, window, &mut takers)?;
-    let ids = pairing::ids_of(tracks);
-    Ok(tell(&ids[..count], &takers[..columns], &costs))
+    match assign_columns(table, tracks, time, gate, window, &mut takers) {
+        Err(why) => Err(why),
+        Ok(()) => {
+            let ids = pairing::ids_of(tracks);
+            Ok(tell(&ids[..count], &takers[..columns], &costs))
+        }
+    }
 }

@@ -54,13 +54,11 @@ returns-in_err-price_table c =
     let q = err_from_is_err_and c.from_residual.result c.from_residual.ensures.1 in
     rw (q.1, q.2) (stage_unpriced c.args.rule c.args.rows c.args.seen c.args.n c.args.m _ _ long seen c.taken-count.ensures c.taken-columns.ensures c.args.window c.args.time (replicate 4096 nought) fresh c.price_table.result _ c.price_table.ensures _ c.in_err-price_table.was)
 
-pub returns-in_err-assign_columns : goal.returns-in_err-assign_columns
-returns-in_err-assign_columns c =
+pub returns-in-Err : goal.returns-in-Err
+returns-in-Err c =
     let long : length c.args.rows ≡ 64 = search (rules, length_mapped) in
     let seen : length c.args.seen ≡ 64 = search (rules, length_mapped) in
-    let q = err_from_is_err_and c.from_residual-in_err-assign_columns.result c.from_residual-in_err-assign_columns.ensures.1 in
-    rw (q.1, q.2)
-    (stage_unpaired c.args.rule c.args.rows c.args.seen c.args.n c.args.m _ _ long seen c.taken-count.ensures c.taken-columns.ensures c.args.window c.args.time (replicate 4096 nought) fresh c.price_table.result _ c.price_table.ensures c.in_ok-price_table.was _ c.assign_columns.result (rw (to_z-of_z c.ranges.time) at c.assign_columns.ensures) _ c.in_err-assign_columns.was)
+    stage_unpaired c.args.rule c.args.rows c.args.seen c.args.n c.args.m _ _ long seen c.taken-count.ensures c.taken-columns.ensures c.args.window c.args.time (replicate 4096 nought) fresh c.price_table.result _ c.price_table.ensures c.in_ok-price_table.was _ c.assign_columns.result (rw (to_z-of_z c.ranges.time) at c.assign_columns.ensures) _ c.in-Err.is
 
 -- the numbers of the rows
 module _ (n : ℕ) (all : List Row) (ids : List ℕ) (long : length all ≡ 64) (h : n ≤ 64) (is : ids ≡ lay (ids_of (take n all)) (replicate 64 0)) where
@@ -76,11 +74,11 @@ module _ (n : ℕ) (all : List Row) (ids : List ℕ) (long : length all ≡ 64) 
   ids_read : take n ids ≡ take n (ids_of all)
   ids_read = ap (take n) laid ∙ lay_read n (ids_of all) (replicate 64 0) numbered
 
-pub returns : goal.returns
-returns c =
+pub returns-in-Ok : goal.returns-in-Ok
+returns-in-Ok c =
     let long : length c.args.rows ≡ 64 = search (rules, length_mapped) in
     let seen : length c.args.seen ≡ 64 = search (rules, length_mapped) in
     stage_told c.args.rule c.args.rows c.args.seen c.args.n c.args.m _ _ long seen c.taken-count.ensures c.taken-columns.ensures c.args.window c.args.time (replicate 4096 nought) fresh c.price_table.result _ c.price_table.ensures
-    c.in_ok-price_table.was _ c.assign_columns.result (rw (to_z-of_z c.ranges.time) at c.assign_columns.ensures) c.in_ok-assign_columns.was c.ids_of-ids.result
+    c.in_ok-price_table.was _ c.assign_columns.result (rw (to_z-of_z c.ranges.time) at c.assign_columns.ensures) c.in-Ok.is c.ids_of-ids.result
     (ids_read c.taken-count.result c.args.rows c.ids_of-ids.result long (omega (arith, c.taken-count.ensures)) c.ids_of-ids.ensures)
     (ids_long c.taken-count.result c.args.rows c.ids_of-ids.result long (omega (arith, c.taken-count.ensures)) c.ids_of-ids.ensures) _ c.tell.ensures
